@@ -1,0 +1,38 @@
+-- What an atom says, which atoms may stand in a clause or in a set, and which sets are possible.
+use mathlib.Core.Path.{_≡_}
+use mathlib.Core.List.{List, List·Memᴰ}
+use Prim.Native.Nat.{ℕ, suc, _+_, _≤_, _<_}
+use lib.IntN.{ℤ, pos, negℤ}
+use lib.Signed.{_≤ℤ_}
+use Rattle.basis.specs.declared.Atom.{Atom}
+use Rattle.basis.specs.Limits.{mostC}
+use Rattle.basis.specs.Numbers.{Numbers}
+
+-- The blank atom stands in every slot past a count.
+abbrev pub noAtom : Atom
+noAtom = record { p = 0; q = 0; c = pos 0 }
+
+-- "c is a signed 32-bit number from −1,000,000 to 1,000,000."
+pub record InRange (c : ℤ) : Type 0 where
+  pub low : negℤ (pos mostC) ≤ℤ c
+  pub high : c ≤ℤ pos mostC
+
+-- "A place is a variable or 0, the number zero; not both are 0." The places are those up to `most`.
+pub record Proper (most : ℕ) (a : Atom) : Type 0 where
+  pub p-place : a .p ≤ most
+  pub q-place : a .q ≤ most
+  pub some-place : 0 < a .p + a .q
+  pub c-range : InRange (a .c)
+
+module _ (N : Numbers) where
+  -- "An atom (p, q, c) means p − q ≤ c", with a number for each place.
+  abbrev pub Holds : (ℕ → N .Number) → Atom → Type 0
+  Holds value a = N .AtMost (value (a .p)) (value (a .q)) (a .c)
+
+  -- "A set of ground atoms is possible if whole numbers exist for the constants that keep this order and make every atom true."
+  pub record Possible (constants : ℕ) (atoms : List Atom) : Type 0 where
+    pub value : ℕ → N .Number
+    pub at-zero : value 0 ≡ N .zeroth
+    -- "The constants b1, b2, .. are ordered: b1 < b2 < .. ."
+    pub rising : (i : ℕ) → 1 ≤ i → i < constants → N .Below (value i) (value (suc i))
+    pub every : (a : Atom) → List·Memᴰ a atoms → Holds value a

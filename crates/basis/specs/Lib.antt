@@ -1,0 +1,5 @@
+-- What every other crate is said in: the paper's limits and refusal numbers, the atom, the numbers it is read over, and `Possible`.
+pub mod Limits
+pub mod Refusals
+pub mod Numbers
+pub mod Atoms

@@ -1,0 +1,40 @@
+-- The paper's limits, each named once.
+use Prim.Native.Nat.{ℕ}
+
+-- "A clause is a record of at most 12 variables, 24 atoms and 8 literals."
+abbrev pub mostVariables : ℕ
+mostVariables = 12
+
+abbrev pub mostAtoms : ℕ
+mostAtoms = 24
+
+abbrev pub mostLiterals : ℕ
+mostLiterals = 8
+
+-- "At most 48 input and 48 learned clauses, 8 predicates of arity 0 to 3, 16 constants."
+abbrev pub mostInput : ℕ
+mostInput = 48
+
+abbrev pub mostLearned : ℕ
+mostLearned = 48
+
+abbrev pub mostPredicates : ℕ
+mostPredicates = 8
+
+abbrev pub mostArguments : ℕ
+mostArguments = 3
+
+abbrev pub mostConstants : ℕ
+mostConstants = 16
+
+-- "The trail holds at most 160 entries of both kinds together."
+abbrev pub mostEntries : ℕ
+mostEntries = 160
+
+-- The constraint test takes the atoms of a full trail and of a full clause: 160 + 24.
+abbrev pub mostTested : ℕ
+mostTested = 184
+
+-- "c is a signed 32-bit number from −1,000,000 to 1,000,000."
+abbrev pub mostC : ℕ
+mostC = 1000000

@@ -1,0 +1,2 @@
+-- The constraint test: what each of its answers says.
+pub mod Test

@@ -1,0 +1,43 @@
+-- What the constraint test is handed, when it refuses, and what each answer says. The paper's section "The constraint test".
+use mathlib.Core.Path.{_≡_}
+use mathlib.Core.List.{List}
+use Prim.Native.Nat.{ℕ, suc, _≤_, _<_}
+use lib.ListN.{getD, take}
+use Rattle.basis.specs.declared.Atom.{Atom}
+use Rattle.basis.specs.Limits.{mostConstants, mostTested}
+use Rattle.basis.specs.Refusals.{aboveLimit, outOfRange}
+use Rattle.basis.specs.Numbers.{whole}
+use Rattle.basis.specs.Atoms.{noAtom, Proper, Possible}
+use Rattle.constraint.specs.declared.Answer.{Answer}
+use Rattle.constraint.specs.declared.Answer.the-variants.{Yes, No, Refused}
+
+-- The atom at k, from 0; its number is one more.
+abbrev pub atomAt : List Atom → ℕ → Atom
+atomAt atoms k = getD atoms k noAtom
+
+-- Handed at most 16 constants and 184 atoms, ..
+pub record Counted (constants count : ℕ) : Type 0 where
+  pub few-constants : constants ≤ mostConstants
+  pub few-atoms : count ≤ mostTested
+
+-- .. each with places among the constants, not both 0, and c in range.
+pub record Accepted (constants count : ℕ) (atoms : List Atom) : Type 0 where
+  pub counted : Counted constants count
+  pub proper : (k : ℕ) → k < count → Proper constants (atomAt atoms k)
+
+-- "Handed more than 16 constants or 184 atoms it refuses by 3, place 0; then an atom with a place above the constants, both places 0 or
+-- c out of range by 4, the place being the atom's number": that of the first such atom.
+pub data Refusal (constants count : ℕ) (atoms : List Atom) : ℕ → ℕ → Type 0 where
+  too-many : ¬ Counted constants count → Refusal constants count atoms aboveLimit 0
+  improper : (k : ℕ) → Counted constants count → k < count → ((j : ℕ) → j < k → Proper constants (atomAt atoms j)) → ¬ Proper constants (atomAt atoms k)
+      → Refusal constants count atoms outOfRange (suc k)
+
+-- What each answer says of the constants and the first `count` atoms.
+abbrev pub Says : ℕ → ℕ → List Atom → Answer → Type 0
+Says constants count atoms Yes = Accepted constants count atoms × Possible whole constants (take count atoms)
+Says constants count atoms No = Accepted constants count atoms × ¬ Possible whole constants (take count atoms)
+Says constants count atoms (Refused number place) = Refusal constants count atoms number place
+
+-- Two answers that say what is so are one: proved in proofs/Unique.antt.
+abbrev pub Unique : Type 0
+Unique = (constants count : ℕ) (atoms : List Atom) (r s : Answer) → Says constants count atoms r → Says constants count atoms s → r ≡ s
