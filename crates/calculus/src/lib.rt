@@ -1,0 +1,1 @@
+// No code: the calculus as definitions and theorems.

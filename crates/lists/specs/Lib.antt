@@ -1,0 +1,2 @@
+-- Lists and tests that compute, for the calculus and the code over it.
+pub mod Lists
