@@ -1,6 +1,9 @@
--- The calculus, in the order of the paper. To be believed: everything here. Proofs stand in proofs/.
+-- The calculus, in the order of the paper. To be believed: what stands here. Proofs stand in proofs/.
+pub mod Checks
 pub mod Clauses
 pub mod Trails
 pub mod Merging
+pub mod Class
 pub mod States
+pub mod Admission
 pub mod Rules

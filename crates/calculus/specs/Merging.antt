@@ -6,7 +6,8 @@ use lib.Dec.{eqb}
 use lib.ListN.{length, getD}
 use Rattle.basis.specs.declared.Atom.{Atom}
 use Rattle.lists.specs.Lists.{upFrom, keepIf, anyOf, without, pairUp, indexOf}
-use Rattle.calculus.specs.Clauses.{Literal, Clause, Instanced, noLiteral, sameAtom, sameLiteral, renameAtom, renameLiteral, under, ground}
+use Rattle.basis.specs.declared.Literal.{Literal}
+use Rattle.calculus.specs.Clauses.{arguments, Clause, Instanced, noLiteral, sameAtom, sameLiteral, renameAtom, renameLiteral, under, ground}
 
 -- "A merged group takes its smallest number": the groups of x and y become one in the table σ of group numbers.
 abbrev pub join : ℕ → ℕ → List ℕ → List ℕ
@@ -23,7 +24,7 @@ distinct (a ∷ az) = a ∷ keepIf (λ b. not (sameAtom a b)) (distinct az)
 
 -- Variable x occurs in an atom or a literal.
 abbrev pub occursIn : List Atom → List Literal → ℕ → Bool
-occursIn az ls x = anyOf (λ a. eqb x (a .p) || eqb x (a .q)) az || anyOf (λ l. anyOf (eqb x) (l .arguments)) ls
+occursIn az ls x = anyOf (λ a. eqb x (a .p) || eqb x (a .q)) az || anyOf (λ l. anyOf (eqb x) (arguments l)) ls
 
 -- "Variables that no longer occur go, and numbers close up in order."
 unfoldable pub closeUp : ℕ → List Atom → List Literal → List ℕ → Instanced
@@ -55,7 +56,7 @@ ownIndex τ g (suc i) (l ∷ ls) = let r = ownIndex τ g i ls in let s = suc r i
 -- The arguments of l paired with those of each literal of the instance g
 abbrev pub ownPairs : List ℕ → Literal → Literal → List Literal → List (ℕ × ℕ)
 ownPairs τ g l [] = []
-ownPairs τ g l (m ∷ ls) = let r = ownPairs τ g l ls in cond (sameLiteral (ground τ m) g) (pairUp (l .arguments) (m .arguments) ++ r) r
+ownPairs τ g l (m ∷ ls) = let r = ownPairs τ g l ls in cond (sameLiteral (ground τ m) g) (pairUp (arguments l) (arguments m) ++ r) r
 
 -- A reason, with its own literal's place, from 0
 pub record Reason : Type 0 where
@@ -78,7 +79,7 @@ apart v x = cond (eqb x zero) zero (x + v)
 unfoldable pub resolvent : Instanced → ℕ → Instanced → ℕ → Instanced
 resolvent N j R i =
     let v = N .clause .variables in
-    merge (pairUp (getD (N .clause .literals) j noLiteral .arguments) (map (apart v) (getD (R .clause .literals) i noLiteral .arguments)))
+    merge (pairUp (arguments (getD (N .clause .literals) j noLiteral)) (arguments (renameLiteral (apart v) (getD (R .clause .literals) i noLiteral))))
         (v + R .clause .variables)
         (N .clause .atoms ++ map (renameAtom (apart v)) (R .clause .atoms))
         (without j (N .clause .literals) ++ map (renameLiteral (apart v)) (without i (R .clause .literals)))
@@ -87,5 +88,5 @@ resolvent N j R i =
 -- "Their variables are merged; the one with the larger number goes." The two literals are at i and j.
 unfoldable pub factored : Instanced → ℕ → ℕ → Instanced
 factored N i j =
-    merge (pairUp (getD (N .clause .literals) (min i j) noLiteral .arguments) (getD (N .clause .literals) (max i j) noLiteral .arguments))
+    merge (pairUp (arguments (getD (N .clause .literals) (min i j) noLiteral)) (arguments (getD (N .clause .literals) (max i j) noLiteral)))
         (N .clause .variables) (N .clause .atoms) (without (max i j) (N .clause .literals)) (N .instance)

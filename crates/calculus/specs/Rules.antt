@@ -9,20 +9,20 @@ use Prim.Native.Nat.{ℕ, zero, suc, _+_, _-_}
 use lib.Dec.{T, eqb, leb, ltb}
 use lib.ListN.{length, getD}
 use Rattle.basis.specs.declared.Atom.{Atom}
-use Rattle.basis.specs.Limits.{mostVariables, mostAtoms, mostLiterals, mostLearned, mostConstants, mostEntries}
+use Rattle.basis.specs.Limits.{mostVariables, mostLearned, mostConstants, mostEntries}
 use Rattle.basis.specs.Refusals.{accepted, aboveLimit, outOfRange, unknownRule, wrongMoment, noSuch, alreadyDefined, notFalse, notPossible, noEntry, wrongLiteral, notAbove, keptNotPossible, noRoom}
 use Rattle.basis.specs.Numbers.{Numbers}
 use Rattle.basis.specs.Atoms.{Possible}
 use Rattle.lists.specs.Lists.{anyOf, allOf, without}
-use Rattle.calculus.specs.Clauses.{Literal, Clause, Instanced, noLiteral, noInstanced, sameLiteral, under, ground, groundAtoms, complement}
+use Rattle.basis.specs.declared.Literal.{Literal}
+use Rattle.calculus.specs.Clauses.{Clause, Instanced, noLiteral, noInstanced, sameLiteral, under, ground, groundAtoms, complement}
 use Rattle.calculus.specs.Trails.{Origin, propagated, decided, Entry, foreground, background, Trail, undefined, isFalse, isDecision, levelOf, largestLevel, cut, atomsOf, appendAtoms}
+use Rattle.calculus.specs.Checks.{between, Check, _or_, firstRefusal}
+use Rattle.calculus.specs.Class.{withinLimits}
 use Rattle.calculus.specs.Merging.{Reason, reason, resolvent, factored}
 use Rattle.calculus.specs.States.{State, Step, Propagate, Decide, Conflict, Resolve, Factorize, Skip, Backtrack, Grow, Unknown, clauses, clauseAt, stands, conflictOf, updated}
 
 -- ---- which numbers name something
-
-abbrev pub between : ℕ → ℕ → ℕ → Bool
-between a b x = leb a x && leb x b
 
 abbrev pub clauseExists : List Clause → ℕ → Bool
 clauseExists cs c = between 1 (length cs) c
@@ -45,7 +45,7 @@ allFalse t τ ls = allOf (λ m. isFalse t (ground τ m)) ls
 
 -- "The atom of the literal, with the sign given": that of the clause's literal at i, from 0.
 abbrev pub decidedLiteral : Clause → ℕ → Bool → List ℕ → Literal
-decidedLiteral C i b τ = let L = getD (C .literals) i noLiteral in record { positive = b; predicate = L .predicate; arguments = map (under τ) (L .arguments) }
+decidedLiteral C i b τ = let L = getD (C .literals) i noLiteral in record { positive = b; predicate = L .predicate; x = under τ (L .x); y = under τ (L .y); z = under τ (L .z) }
 
 -- A Decide sign as a truth value
 abbrev pub isOne : ℕ → Bool
@@ -89,10 +89,6 @@ otherInstances N l = map (ground (N .instance)) (without (l - 1) (N .clause .lit
 -- "i is the largest level in D, 0 if D is empty."
 abbrev pub backLevel : Instanced → ℕ → Trail → ℕ
 backLevel N l t = largestLevel t (otherInstances N l)
-
--- "A clause is a record of at most 12 variables, 24 atoms and 8 literals."
-abbrev pub withinLimits : Clause → Bool
-withinLimits C = leb (C .variables) mostVariables && (leb (length (C .atoms)) mostAtoms && leb (length (C .literals)) mostLiterals)
 
 -- ---- the state that each rule names
 
@@ -151,15 +147,6 @@ question s (Backtrack l) =
 question s (Grow n) = []
 question s (Unknown r) = []
 
--- A condition, and the refusal given where it does not hold
-pub record Check : Type 0 where
-  pub ok : Bool
-  pub refusal : ℕ
-
-infix 68 _or_
-abbrev pub _or_ : Bool → ℕ → Check
-b or n = record { ok = b; refusal = n }
-
 -- What a step asks; `possible` tells whether its question's atoms are.
 abbrev pub asks : Bool → State → Step → List Check
 asks possible s (Propagate c l τ) =
@@ -216,11 +203,6 @@ asks possible s (Grow n) =
     leb 1 n or noSuch ∷
     leb (s .constants + n) mostConstants or noRoom ∷ []
 asks possible s (Unknown r) = false or unknownRule ∷ []
-
--- "A step's reasons are tried in rising order."
-abbrev pub firstRefusal : List Check → ℕ
-firstRefusal [] = accepted
-firstRefusal (c ∷ cs) = let r = firstRefusal cs in cond (c .ok) r (c .refusal)
 
 -- The number, from 1, of the first that fails the test
 abbrev pub firstFailing : (Literal → Bool) → List Literal → ℕ

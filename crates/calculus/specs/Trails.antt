@@ -5,7 +5,8 @@ use Prim.Native.Nat.{ℕ, zero, suc, max}
 use lib.Dec.{leb}
 use Rattle.basis.specs.declared.Atom.{Atom}
 use Rattle.lists.specs.Lists.{anyOf}
-use Rattle.calculus.specs.Clauses.{Literal, sameAtom, sameLiteral, complement}
+use Rattle.basis.specs.declared.Literal.{Literal}
+use Rattle.calculus.specs.Clauses.{sameAtom, sameLiteral, complement}
 
 -- "A foreground entry keeps its step: Propagate's clause, literal and instance (after Backtrack, those of the learned clause), or
 -- Decide's with the sign."
