@@ -1,0 +1,4 @@
+-- Laws of the lists and tests of specs/.
+pub mod Tests
+pub mod Members
+pub mod Counting
