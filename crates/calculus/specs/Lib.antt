@@ -7,3 +7,5 @@ pub mod Class
 pub mod States
 pub mod Admission
 pub mod Rules
+pub mod Truth
+pub mod Runs
