@@ -9,3 +9,4 @@ pub mod Admission
 pub mod Rules
 pub mod Truth
 pub mod Runs
+pub mod Demands
