@@ -3,3 +3,5 @@ pub mod Merged
 pub mod Instances
 pub mod Truths
 pub mod Derived
+pub mod OnTrail
+pub mod Answers

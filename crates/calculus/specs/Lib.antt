@@ -9,3 +9,5 @@ pub mod Admission
 pub mod Rules
 pub mod Truth
 pub mod Runs
+pub mod OnTrail
+pub mod Answers
