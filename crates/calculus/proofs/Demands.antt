@@ -4,25 +4,25 @@ use mathlib.Core.Logic.{_↔_, _⊎_, inl, inr}
 use mathlib.Core.List.{List, List·Memᴰ, List·Memᴰ·append-cases, List·Memᴰ·cases-cons, List·Memᴰ·head, List·Memᴰ·not-nil, List·Memᴰ·tail, Memᴰ·append-left, Memᴰ·append-right, Memᴰ·map, [], _++_, _∷_, append-nil}
 use mathlib.Core.Option.{Option, none, some}
 use mathlib.Core.Bool.{Bool, _&&_, _||_, cond, false, not, true}
-use Prim.Native.Nat.{suc, zero, ℕ}
+use Prim.Native.Nat.{zero, ℕ}
 use native.Mathlib.Decide.{ℕ-discrete}
 use native.Mathlib.Omega.{arith}
-use lib.Dec.{T, eqb, eqb-refl}
+use lib.Dec.{T, eqb}
 use Rattle.basis.specs.Atoms.{Possible}
 use Rattle.basis.specs.Numbers.{Numbers, whole}
+use Rattle.basis.specs.Refusals.{keptNotPossible}
 use Rattle.basis.specs.declared.Atom.{Atom}
 use Rattle.basis.specs.declared.Literal.{Literal}
-use Rattle.lists.proofs.Tests.{F→eq, Said, T→eq, and-i, fails, holds, or-l, or-r, said}
+use Rattle.lists.proofs.Tests.{F→eq, Said, T→eq, fails, holds, said}
 use Rattle.lists.specs.Lists.{anyOf}
 use Rattle.calculus.specs.Admission.{Admitted}
-use Rattle.calculus.specs.Checks.{Check, firstRefusal}
 use Rattle.calculus.specs.Clauses.{Clause, Instanced, ground, groundAtoms}
 use Rattle.calculus.specs.Demands.{Demand2, Demand3, EveryStateReached, Never17, Once, ReachedSound, RefusalNever17, Replay, Soundness}
 use Rattle.calculus.specs.Rules.{Answer, Judged, asks, backLevel, next, question}
 use Rattle.calculus.specs.Runs.{AcceptedRun, Run, over, replayed, restarted, then}
 use Rattle.calculus.specs.States.{Backtrack, Conflict, Decide, Factorize, Grow, Propagate, Resolve, Skip, State, Step, Unknown, clauseAt, clauses, conflictOf}
 use Rattle.calculus.specs.Trails.{Entry, Origin, Trail, appendAtoms, atomOnTrail, atomsOf, background, cut, decided, decisions, foreground, isFalse, propagated}
-use Rattle.calculus.proofs.Answers.{accepted-step, refused-state}
+use Rattle.calculus.proofs.Answers.{acceptance, fault-given, refused-hands-back}
 use Rattle.calculus.proofs.Invariant.{Inv, Now, Stands, inv-step, possible-sub, refuted, step-undef}
 use Rattle.calculus.proofs.Levels.{cut-tail}
 use Rattle.calculus.proofs.Trails.{Built, StepOk, Tail, atomsBy, built-again, empty, group, grown, here, litBy, possible-none, there}
@@ -104,8 +104,8 @@ inv-judged : {nums : Numbers} (s : State) (x : Step) (a : Answer) → Inv nums s
 inv-judged {nums} s x a v j = go (ℕ-discrete (a .number) zero)
   where
     go : Dec (a .number ≡ zero) → Inv nums (a .state)
-    go (yes e) = inv-step s x (a .state) v (accepted-step nums s x a j e)
-    go (no e) = subst (Inv nums) (sym (refused-state nums s x a j e)) v
+    go (yes e) = inv-step s x (a .state) v (acceptance nums s x a j e)
+    go (no e) = subst (Inv nums) (sym (refused-hands-back nums s x a j e)) v
 
 pub inv-run : {nums : Numbers} {s s′ : State} {xs : List Step} → Inv nums s → Run nums s xs s′ → Inv nums s′
 inv-run {nums} v (Run.over e) = subst (Inv nums) e v
@@ -130,8 +130,8 @@ judged-input {nums} s x a j = go (ℕ-discrete (a .number) zero)
     same e h = (ap (λ (q : State). q .input) e ∙ h .0, ap (λ (q : State). q .arities) e ∙ h .1)
 
     go : Dec (a .number ≡ zero) → (a .state .input ≡ s .input) × (a .state .arities ≡ s .arities)
-    go (yes e) = same (accepted-step nums s x a j e .is) (next-input s x)
-    go (no e) = same (refused-state nums s x a j e) (refl, refl)
+    go (yes e) = same (acceptance nums s x a j e .is) (next-input s x)
+    go (no e) = same (refused-hands-back nums s x a j e) (refl, refl)
 
 pub run-input : {nums : Numbers} {s s′ : State} {xs : List Step} → Run nums s xs s′ → (s′ .input ≡ s .input) × (s′ .arities ≡ s .arities)
 run-input (Run.over e) = (sym (ap (λ (q : State). q .input) e), sym (ap (λ (q : State). q .arities) e))
@@ -196,19 +196,8 @@ demand-3 = replay whole
 
 -- ---- refusal 17
 
--- A refusal given is that of a check that fails.
-refusal-fails : (n : ℕ) (cs : List Check) → firstRefusal cs ≡ suc n → T (anyOf (λ c. eqb (c .refusal) (suc n) && not (c .ok)) cs)
-refusal-fails n [] e = absurd (omega arith)
-refusal-fails n (c ∷ cs) e = go (c .ok) e (λ k. refusal-fails n cs k)
-  where
-    go : (b : Bool) → cond b (firstRefusal cs) (c .refusal) ≡ suc n → (firstRefusal cs ≡ suc n → T (anyOf (λ d. eqb (d .refusal) (suc n) && not (d .ok)) cs))
-        → T ((eqb (c .refusal) (suc n) && not b) || anyOf (λ d. eqb (d .refusal) (suc n) && not (d .ok)) cs)
-    go true k ih = or-r (eqb (c .refusal) (suc n) && false) (anyOf (λ d. eqb (d .refusal) (suc n) && not (d .ok)) cs) (ih k)
-    go false k ih = or-l (eqb (c .refusal) (suc n) && true) (anyOf (λ d. eqb (d .refusal) (suc n) && not (d .ok)) cs)
-        (and-i (eqb (c .refusal) (suc n)) true (subst (λ q. T (eqb q (suc n))) (sym k) (eqb-refl (suc n))) tt)
-
 never : (nums : Numbers) → Never17 nums
-never nums s₀ s xs ad r x a j e = go x (j .decides) (refusal-fails 16 (asks (j .possible) s x) (sym (ap (λ (q : Answer). q .number) (j .is)) ∙ e))
+never nums s₀ s xs ad r x a j e = go x (j .decides) (fault-given keptNotPossible (asks (j .possible) s x) (sym (ap (λ (q : Answer). q .number) (j .is)) ∙ e) (λ z. absurd (omega arith)))
   where
     v : Inv nums s
     v = inv-run (inv-start nums s₀ ad) r

@@ -16,6 +16,7 @@ use Rattle.basis.specs.declared.Literal.{Literal}
 use Rattle.lists.proofs.Members.{allOf-in, allOf-out, without-cases, without-out}
 use Rattle.lists.proofs.Tests.{Said, and-i, and-l, and-r, fails, holds, said}
 use Rattle.lists.specs.Lists.{without}
+use Rattle.calculus.specs.Answers.{rising}
 use Rattle.calculus.specs.Checks.{between}
 use Rattle.calculus.specs.Class.{InClass, Limited}
 use Rattle.calculus.specs.Clauses.{Clause, Instanced, complement, ground, groundAtoms, noLiteral, renameAtom, sameLiteral, under}

@@ -1,9 +1,9 @@
 -- The laws and proofs behind the calculus's theorems. Nothing here has to be read to believe them.
-
 pub mod Merged
 pub mod Instances
 pub mod Truths
 pub mod Derived
+pub mod OnTrail
 pub mod Answers
 pub mod Trails
 pub mod Class

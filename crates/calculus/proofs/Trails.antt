@@ -15,6 +15,7 @@ use Rattle.basis.specs.Numbers.{Numbers}
 use Rattle.basis.specs.declared.Atom.{Atom}
 use Rattle.basis.specs.declared.Literal.{Literal}
 use Rattle.lists.proofs.Tests.{F→eq, Said, T→eq, and-i, fails, holds, said}
+use Rattle.calculus.specs.Answers.{rising}
 use Rattle.calculus.specs.Clauses.{Clause, ground, groundAtoms, noLiteral, sameAtom}
 use Rattle.calculus.specs.Rules.{clauseExists, decidedLiteral, instanceFits, literalExists, next, othersFalse, propagatedTrail}
 use Rattle.calculus.specs.Runs.{AcceptedRun, over, replayed, restarted, stepOf, stepsOf, then}

@@ -7,6 +7,8 @@ pub mod Class
 pub mod States
 pub mod Admission
 pub mod Rules
+pub mod OnTrail
+pub mod Answers
 pub mod Truth
 pub mod Runs
 pub mod Demands

@@ -2,3 +2,4 @@
 pub mod Tests
 pub mod Members
 pub mod Counting
+pub mod Denials
