@@ -18,12 +18,12 @@ pub record Numbers : Type 1 where
 
 -- "We read the arithmetic over whole numbers, since product codes are whole."
 abbrev pub whole : Numbers
-whole = record
-  { Number = ℤ
-  ; zeroth = pos 0
-  ; AtMost = λ x y c. (x -ℤ y) ≤ℤ c
-  ; Below = _<ℤ_
-  ; counted = pos
-  ; counted-zero = refl
-  ; counted-rises = λ i. ltZ-yes (lt→ltb i (suc i) (omega arith))
-  }
+whole = record {
+  Number = ℤ;
+  zeroth = pos 0;
+  AtMost = λ x y c. (x -ℤ y) ≤ℤ c;
+  Below = _<ℤ_;
+  counted = pos;
+  counted-zero = refl;
+  counted-rises = λ i. ltZ-yes (lt→ltb i (suc i) (omega arith));
+}
