@@ -1,0 +1,6 @@
+-- The laws of squares of bounds.
+pub mod Lower
+pub mod Put
+pub mod Values
+pub mod Depths
+pub mod Draw
