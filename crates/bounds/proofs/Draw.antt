@@ -4,7 +4,6 @@ use Prim.Native.Nat.{ℕ, zero, suc, _+_, _-_, _*_, _≤_, _<_}
 use native.Mathlib.Decide.{decLt}
 use native.Mathlib.Omega.{arith}
 use lib.IntN.{ℤ, pos, negsuc, negℤ, _+ℤ_}
-use lib.Signed.{_≤ℤ_}
 use Rattle.integers.specs.Sides.{over, under, Within}
 use Rattle.integers.proofs.Linear.{le→, →le, sum, negated}
 use Rattle.bounds.specs.Whole.{Together, Drawn}

@@ -1,6 +1,6 @@
 -- One bound put into a closed square: exact, and closed again unless it closes a chain below zero.
-use mathlib.Core.Path.{_≡_, sym, ap, _∙_, subst}
-use mathlib.Core.Bool.{true, false}
+use mathlib.Core.Path.{_≡_, sym, _∙_, subst}
+use mathlib.Core.Bool.{false}
 use Prim.Native.Nat.{ℕ, _<_}
 use Rattle.bounds.specs.Kinds.{Kind}
 use Rattle.bounds.specs.Squares.{Square, Values, Keeps, KeepsAll, Closed, put, PutExact, PutNone, PutClosed}

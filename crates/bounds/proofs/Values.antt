@@ -1,6 +1,6 @@
 -- The values of a closed square, and what is unique: the largest values, and the closed square itself.
 use mathlib.Core.Path.{_≡_, subst}
-use Prim.Native.Nat.{ℕ, suc, _<_}
+use Prim.Native.Nat.{ℕ, _<_}
 use native.Mathlib.Omega.{arith}
 use Rattle.bounds.specs.Kinds.{Kind}
 use Rattle.bounds.specs.Squares.{Square, Values, KeepsAll, Closed, values, ValuesLargest, LargestUnique, ClosedUnique}

@@ -6,7 +6,7 @@ use native.Mathlib.Omega.{arith}
 use lib.Dec.{T}
 use lib.IntN.{ℤ, negℤ, _+ℤ_, _-ℤ_}
 use lib.Signed.{_≤ℤ_, _<ℤ_, ltZ, ltZ-yes, ltZ-no}
-use Rattle.integers.specs.Sides.{over, under, Within}
+use Rattle.integers.specs.Sides.{Within}
 use Rattle.integers.proofs.Linear.{le→, lt→, →le, →eq, sum, negated}
 
 pub ltZ-true : {a b : ℤ} → ltZ a b ≡ true → a <ℤ b
