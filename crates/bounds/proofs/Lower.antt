@@ -23,6 +23,14 @@ module _ (K : Kind) where
       go true e = K .less-yes e
       go false e = K .refl-most y
 
+  -- The lower is the old one where the new is no lower.
+  pub lower-idle : (x y : K .Bound) → K .AtMost y x → lower K x y ≡ y
+  lower-idle x y h = go (K .less x y) refl
+    where
+      go : (b : Bool) → K .less x y ≡ b → cond b x y ≡ y
+      go true e = absurd (K .less-not e h)
+      go false e = refl
+
   -- What holds of both holds of the lower.
   pub lower-both : (P : K .Bound → Type 0) (x y : K .Bound) → P x → P y → P (lower K x y)
   lower-both P x y h k = go (K .less x y)

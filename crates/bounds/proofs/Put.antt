@@ -4,7 +4,7 @@ use mathlib.Core.Bool.{false}
 use Prim.Native.Nat.{ℕ, _<_}
 use Rattle.bounds.specs.Kinds.{Kind}
 use Rattle.bounds.specs.Squares.{Square, Values, Keeps, KeepsAll, Closed, put, PutExact, PutNone, PutClosed}
-use Rattle.bounds.proofs.Lower.{lower-left, lower-right, lower-both}
+use Rattle.bounds.proofs.Lower.{lower-left, lower-right, lower-both, lower-idle}
 
 module _ (K : Kind) where
   infixl 60 _⊕_
@@ -79,3 +79,9 @@ module _ (K : Kind) where
 
   pub put-closed : PutClosed K
   put-closed m d C p q c hp hq chain = closed-again m d C p q c hp hq chain
+
+  -- A bound that the square has already leaves it as it is.
+  pub put-had : (m : ℕ) (d : Square K) → Closed K m d → (p q : ℕ) (c : K .Bound) → p < m → q < m → d p q ≼ c → (i j : ℕ) → i < m → j < m →
+      put K d p q c i j ≡ d i j
+  put-had m d C p q c hp hq h i j hi hj = lower-idle K (d i p ⊕ c ⊕ d q j) (d i j)
+      (K .trans (C .through i q j hi hq hj) (K .add (K .trans (C .through i p q hi hp hq) (K .add (K .refl-most (d i p)) h)) (K .refl-most (d q j))))

@@ -5,7 +5,7 @@ use Prim.Native.Nat.{ℕ, _+_, _≤_}
 use native.Mathlib.Omega.{arith}
 use lib.Dec.{T}
 use lib.IntN.{ℤ, negℤ, _+ℤ_, _-ℤ_}
-use lib.Signed.{_≤ℤ_, _<ℤ_, ltZ, ltZ-yes, ltZ-no}
+use lib.Signed.{_≤ℤ_, _<ℤ_, leZ, ltZ, leZ-yes, ltZ-yes, ltZ-no}
 use Rattle.integers.specs.Sides.{Within}
 use Rattle.integers.proofs.Linear.{le→, lt→, →le, →eq, sum, negated}
 
@@ -14,6 +14,9 @@ ltZ-true e = ltZ-yes (subst T (sym e) tt)
 
 pub ltZ-false : {a b : ℤ} → ltZ a b ≡ false → b ≤ℤ a
 ltZ-false e = ltZ-no (subst (λ (t : Bool). T (not t)) (sym e) tt)
+
+pub leZ-true : {a b : ℤ} → leZ a b ≡ true → a ≤ℤ b
+leZ-true e = leZ-yes (subst T (sym e) tt)
 
 pub <→≤ : {a b : ℤ} → a <ℤ b → a ≤ℤ b
 <→≤ {a} {b} h = →le a b (omega (arith, lt→ h))
