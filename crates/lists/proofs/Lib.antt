@@ -1,5 +1,6 @@
 -- Laws of the lists and tests of specs/.
 pub mod Tests
+pub mod Denials
 pub mod Members
 pub mod Counting
-pub mod Denials
+pub mod Walk

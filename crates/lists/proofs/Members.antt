@@ -1,6 +1,6 @@
 -- What is a member of the lists that the definitions make, and what a test over a list says of its members.
 use mathlib.Core.Path.{_∙_, _≡_, ap, ap₂, refl, subst, sym}
-use mathlib.Core.Logic.{_⊎_, inl, inr}
+use mathlib.Core.Logic.{_⊎_, inl, inr, ⊎-elim}
 use mathlib.Core.List.{List, List·Memᴰ, List·Memᴰ·cases-cons, List·Memᴰ·head, List·Memᴰ·not-nil, List·Memᴰ·tail, [], _∷_, map}
 use mathlib.Core.Bool.{Bool, _||_, cond, false, true}
 use Prim.Native.Nat.{_<_, _≤_, suc, zero, ℕ}
@@ -180,3 +180,19 @@ pub without-short : {A : Type 0} (i : ℕ) (l : List A) → length (without i l)
 without-short i [] = omega arith
 without-short zero (x ∷ l) = omega arith
 without-short (suc i) (x ∷ l) = omega (arith, without-short i l)
+
+-- ---- the first n of a list, by what stands at the places below n
+
+module _ {A : Type 0} (z : A) where
+  -- What holds at each place holds of each member.
+  pub of-members : (P : A → Type 0) (l : List A) (n : ℕ) → ((k : ℕ) → k < n → P (getD l k z)) → (a : A) → List·Memᴰ a (take n l) → P a
+  of-members P l zero h a m = absurd (List·Memᴰ·not-nil m)
+  of-members P [] (suc n) h a m = absurd (List·Memᴰ·not-nil m)
+  of-members P (x ∷ l) (suc n) h a m = ⊎-elim (λ e. subst P (sym e) (h 0 (omega arith))) (λ k. of-members P l n (λ j i. h (suc j) (omega arith)) a k) (List·Memᴰ·cases-cons m)
+
+  -- What stands at a place is a member.
+  pub member-at : (l : List A) (n k : ℕ) → k < n → k < length l → List·Memᴰ (getD l k z) (take n l)
+  member-at l zero k h i = absurd (omega arith)
+  member-at [] (suc n) k h i = absurd (omega arith)
+  member-at (x ∷ l) (suc n) zero h i = List·Memᴰ·head refl
+  member-at (x ∷ l) (suc n) (suc k) h i = List·Memᴰ·tail (member-at l n k (omega arith) (omega arith))
