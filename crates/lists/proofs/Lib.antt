@@ -4,3 +4,5 @@ pub mod Denials
 pub mod Members
 pub mod Counting
 pub mod Walk
+pub mod Arrays
+pub mod Walks

@@ -1,0 +1,2 @@
+-- The array of entries as the calculus's trail.
+pub mod Entries
