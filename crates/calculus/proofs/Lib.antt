@@ -4,4 +4,6 @@ pub mod Instances
 pub mod Truths
 pub mod Derived
 pub mod OnTrail
+pub mod Levels
 pub mod Answers
+pub mod Conditions

@@ -10,4 +10,6 @@ pub mod Rules
 pub mod Truth
 pub mod Runs
 pub mod OnTrail
+pub mod Levels
 pub mod Answers
+pub mod Conditions
