@@ -13,3 +13,4 @@ pub mod OnTrail
 pub mod Levels
 pub mod Answers
 pub mod Conditions
+pub mod Admitting

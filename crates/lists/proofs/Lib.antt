@@ -3,3 +3,4 @@ pub mod Tests
 pub mod Members
 pub mod Counting
 pub mod Denials
+pub mod Meanings
