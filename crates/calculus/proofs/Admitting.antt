@@ -26,7 +26,7 @@ use Rattle.calculus.specs.Class.{Bounded, DifferencesBounded, InClass, L
 use Rattle.calculus.specs.Clauses.{Clause, arguments, noClause}
 use Rattle.calculus.specs.Merging.{occursIn}
 use Rattle.calculus.specs.States.{clauseAt}
-use Rattle.calculus.proofs.Conditions.{between-iff, limited-iff}
+use Rattle.calculus.proofs.Conditions.{between-says, limited-says}
 
 -- ---- the clause class
 
@@ -49,8 +49,8 @@ zero-says x = says-also (eqb-says zero x) sym sym
 proper-literal-says : (arities : List ℕ) (v : ℕ) (l : Literal) → T (properLiteral arities v l) ↔ ProperLiteral arities v l
 proper-literal-says arities v l =
     says-also
-    (and-says (between 1 (length arities) (l .predicate)) _ (between-iff 1 (length arities) (l .predicate))
-    (and-says (allOf (between 1 v) own) _ (all-says (between 1 v) (λ x. (1 ≤ x) × (x ≤ v)) (between-iff 1 v) own) (all-says (eqb zero) (λ x. x ≡ zero) zero-says others)))
+    (and-says (between 1 (length arities) (l .predicate)) _ (between-says 1 (length arities) (l .predicate))
+    (and-says (allOf (between 1 v) own) _ (all-says (between 1 v) (λ x. (1 ≤ x) × (x ≤ v)) (between-says 1 v) own) (all-says (eqb zero) (λ x. x ≡ zero) zero-says others)))
     (λ h. record { from-one = h .0 .0; known = h .0 .1; its-arguments = h .1 .0; no-others = h .1 .1 })
     (λ h. ((h .from-one, h .known), (h .its-arguments, h .no-others)))
   where
@@ -140,7 +140,7 @@ first-of-four arities C true true true true l f o w =
 pub clause-refused-rightly : ClauseRefusedRightly
 clause-refused-rightly arities C =
     first-of-four arities C (withinLimits C) (allOf (properAtom (C .variables)) (C .atoms) && allOf (properLiteral arities (C .variables)) (C .literals))
-    (allOf (occursIn (C .atoms) (C .literals)) (upFrom 1 (C .variables))) (differencesBounded (C .atoms)) (limited-iff C) (fields-say arities C) (each-occurs-says C) (differences-say (C .atoms))
+    (allOf (occursIn (C .atoms) (C .literals)) (upFrom 1 (C .variables))) (differencesBounded (C .atoms)) (limited-says C) (fields-say arities C) (each-occurs-says C) (differences-say (C .atoms))
 
 pub clause-accepted-exactly : ClauseAcceptedExactly
 clause-accepted-exactly arities C = (λ e. out e (clause-refused-rightly arities C), λ h. back h (clause-refused-rightly arities C))

@@ -1,118 +1,83 @@
 -- A step's checks all pass exactly when its conditions in the paper's words hold.
-use mathlib.Core.Path.{_∙_, _≡_, ap, refl, subst, sym}
+use mathlib.Core.Path.{_∙_, _≡_, ap, refl, sym}
 use mathlib.Core.Logic.{_↔_, _⊎_, inl, inr}
-use mathlib.Core.List.{List, List·Memᴰ, List·Memᴰ·cases-cons, List·Memᴰ·head, List·Memᴰ·not-nil, List·Memᴰ·tail, [], _∷_}
+use mathlib.Core.List.{List, List·Memᴰ, List·Memᴰ·cases-cons, List·Memᴰ·head, List·Memᴰ·not-nil, List·Memᴰ·tail, Memᴰ·cast, [], _∷_}
 use mathlib.Core.Option.{Option, none, some}
-use mathlib.Core.Bool.{Bool, _&&_, _||_, not, true}
+use mathlib.Core.Bool.{Bool, _||_, not}
 use Prim.Native.Nat.{_+_, _-_, _<_, _≤_, suc, zero, ℕ}
 use native.Mathlib.Omega.{arith}
-use lib.Dec.{T, T-not, eqb, eqb-refl, eqb→eq, leb, leb→le, le→leb, ltb→lt, lt→ltb, nleb→lt, not-T}
+use lib.Dec.{T, eqb, leb, leb→le, nleb→lt}
 use lib.ListN.{length}
 use Rattle.basis.specs.Atoms.{Possible}
 use Rattle.basis.specs.Limits.{mostAtoms, mostConstants, mostEntries, mostLearned, mostLiterals, mostVariables}
 use Rattle.basis.specs.Numbers.{Numbers}
 use Rattle.basis.specs.Refusals.{accepted}
 use Rattle.basis.specs.declared.Literal.{Literal}
-use Rattle.lists.proofs.Denials.{not-or, not-or-in}
-use Rattle.lists.proofs.Members.{allOf-in, allOf-out, anyOf-in, anyOf-out}
-use Rattle.lists.proofs.Tests.{Said, and-i, and-l, and-r, fails, holds, not-eqb, said}
+use Rattle.lists.proofs.Meanings.{_&_, all-says, and-says, any-says, eqb-says, leb-says, ltb-says, not-says, or-says, says-also}
+use Rattle.lists.proofs.Tests.{Said, fails, holds, said}
 use Rattle.lists.specs.Lists.{allOf, anyOf}
 use Rattle.calculus.specs.Checks.{between}
 use Rattle.calculus.specs.Class.{Limited, withinLimits}
 use Rattle.calculus.specs.Clauses.{Clause, Instanced, complement, ground, sameLiteral}
-use Rattle.calculus.specs.Conditions.{AcceptedExactlyIfAllowed, Allowed, InstanceOf, Largest, LastGoes, LastPropagated, Names, literalAt}
-use Rattle.calculus.specs.OnTrail.{False, Undefined}
+use Rattle.calculus.specs.Conditions.{AcceptedExactlyIfAllowed, Allowed, Largest, LastGoes, LastPropagated, Names, literalAt}
+use Rattle.calculus.specs.OnTrail.{False, On, Undefined}
 use Rattle.calculus.specs.Rules.{Answer, allFalse, asks, backLevel, clauseExists, complementInConflict, decidedLiteral, instanceFits, isOne, lastIsPropagated, lastLiteral, literalExists, literalInstance, next, nonempty, otherInstances, othersFalse, question}
 use Rattle.calculus.specs.States.{Backtrack, Conflict, Decide, Factorize, Grow, Propagate, Resolve, Skip, State, Step, Unknown, clauseAt, clauses, conflictOf, stands}
 use Rattle.calculus.specs.Trails.{Trail, background, decided, foreground, isFalse, largestLevel, levelOf, onTrail, propagated, undefined}
 use Rattle.calculus.proofs.Answers.{AllOk, all-rise, pass, passed}
-use Rattle.calculus.proofs.Merged.{sameLiteral-refl, sameLiteral→eq}
-use Rattle.calculus.proofs.OnTrail.{complement-twice, not-on-in, not-on-out, on-in, on-out, other-false-in, other-false-out, same-literal}
+use Rattle.calculus.proofs.Merged.{sameLiteral→eq}
+use Rattle.calculus.proofs.OnTrail.{complement-twice, on-in, on-out, other-false-in, other-false-out, same-literal}
 
 -- ---- each test and what it says
 
-pub between-iff : (a b x : ℕ) → T (between a b x) ↔ ((a ≤ x) × (x ≤ b))
-between-iff a b x =
-    (λ t. (leb→le a x (and-l (leb a x) (leb x b) t), leb→le x b (and-r (leb a x) (leb x b) t)), λ h. and-i (leb a x) (leb x b) (le→leb a x (h .0)) (le→leb x b (h .1)))
+pub between-says : (a b x : ℕ) → T (between a b x) ↔ ((a ≤ x) × (x ≤ b))
+between-says a b x = and-says (leb a x) (leb x b) (leb-says a x) (leb-says x b)
 
-names-iff : {A : Type 0} (of : List A) (n : ℕ) → T (between 1 (length of) n) ↔ Names of n
-names-iff of n =
-    (λ t. let h = between-iff 1 (length of) n .0 t in record { from-one = h .0; there = h .1 }, λ h. between-iff 1 (length of) n .1 (h .from-one, h .there))
+names-says : {A : Type 0} (of : List A) (n : ℕ) → T (between 1 (length of) n) ↔ Names of n
+names-says of n = says-also (between-says 1 (length of) n) (λ h. record { from-one = h .0; there = h .1 }) (λ h. (h .from-one, h .there))
 
-instance-iff : (n : ℕ) (C : Clause) (τ : List ℕ) → (T (leb (length τ) mostVariables) × T (instanceFits n C τ)) ↔ InstanceOf n C τ
-instance-iff n C τ = (out, back)
+instance-says : (n : ℕ) (C : Clause) (τ : List ℕ) → T (instanceFits n C τ) ↔ ((length τ ≡ C .variables) × ((b : ℕ) → List·Memᴰ b τ → (1 ≤ b) × (b ≤ n)))
+instance-says n C τ = and-says (eqb (length τ) (C .variables)) (allOf (between 1 n) τ) (eqb-says (length τ) (C .variables)) (all-says (between 1 n) (λ b. (1 ≤ b) × (b ≤ n)) (between-says 1 n) τ)
+
+none-says : (c : Option Instanced) → T (not (stands c)) ↔ (c ≡ none)
+none-says none = (λ t. refl, λ e. tt)
+none-says (some K) = (λ t. absurd t, λ e. let z : _≡_ {A = ℕ} 0 1 = cc in absurd (omega arith))
+
+standing-says : (c : Option Instanced) → T (stands c) ↔ (c ≡ some (conflictOf c))
+standing-says none = (λ t. absurd t, λ e. let z : _≡_ {A = ℕ} 0 1 = cc in absurd (omega arith))
+standing-says (some K) = (λ t. refl, λ e. tt)
+
+same-says : (a b : Literal) → T (sameLiteral a b) ↔ (a ≡ b)
+same-says a b = (sameLiteral→eq a b, same-literal)
+
+on-says : (t : Trail) (l : Literal) → T (onTrail l t) ↔ On t l
+on-says t l = (on-out t l, on-in t l)
+
+undefined-says : (t : Trail) (l : Literal) → T (undefined t l) ↔ Undefined t l
+undefined-says t l =
+    says-also (not-says (onTrail l t || onTrail (complement l) t) (or-says (onTrail l t) (onTrail (complement l) t) (on-says t l) (on-says t (complement l))))
+    (λ h. record { not-it = λ k. h (inl k); not-complement = λ k. h (inr k) }) (λ h k. neither h k)
   where
-    out : T (leb (length τ) mostVariables) × T (instanceFits n C τ) → InstanceOf n C τ
-    out (t, u) = record {
-      short = leb→le (length τ) mostVariables t;
-      for-each-variable = eqb→eq (length τ) (C .variables) (and-l (eqb (length τ) (C .variables)) (allOf (between 1 n) τ) u);
-      of-constants = λ b m. between-iff 1 n b .0 (allOf-out (between 1 n) τ (and-r (eqb (length τ) (C .variables)) (allOf (between 1 n) τ) u) m);
-    }
+    neither : Undefined t l → On t l ⊎ On t (complement l) → ⊥
+    neither h (inl k) = h .not-it k
+    neither h (inr k) = h .not-complement k
 
-    back : InstanceOf n C τ → T (leb (length τ) mostVariables) × T (instanceFits n C τ)
-    back h = (
-      le→leb (length τ) mostVariables (h .short),
-      and-i (eqb (length τ) (C .variables)) (allOf (between 1 n) τ) (rw (h .for-each-variable) (eqb-refl (C .variables)))
-          (allOf-in (between 1 n) τ (λ b m. between-iff 1 n b .1 (h .of-constants b m))),
-    )
+others-false-says : (t : Trail) (τ : List ℕ) (g : Literal) (ls : List Literal) → T (othersFalse t τ g ls) ↔ ((m : Literal) → List·Memᴰ m ls → ¬ (ground τ m ≡ g) → False t (ground τ m))
+others-false-says t τ g ls =
+    all-says (λ m. sameLiteral (ground τ m) g || isFalse t (ground τ m)) (λ m. ¬ (ground τ m ≡ g) → False t (ground τ m)) (λ m. (other-false-out t (ground τ m) g, other-false-in t (ground τ m) g)) ls
 
-none-iff : (c : Option Instanced) → T (not (stands c)) ↔ (c ≡ none)
-none-iff none = (λ t. refl, λ e. tt)
-none-iff (some K) = (λ t. absurd t, λ e. let z : _≡_ {A = ℕ} 0 1 = cc in absurd (omega arith))
+all-false-says : (t : Trail) (τ : List ℕ) (ls : List Literal) → T (allFalse t τ ls) ↔ ((m : Literal) → List·Memᴰ m ls → False t (ground τ m))
+all-false-says t τ ls = all-says (λ m. isFalse t (ground τ m)) (λ m. False t (ground τ m)) (λ m. on-says t (complement (ground τ m))) ls
 
-standing-iff : (c : Option Instanced) → T (stands c) ↔ (c ≡ some (conflictOf c))
-standing-iff none = (λ t. absurd t, λ e. let z : _≡_ {A = ℕ} 0 1 = cc in absurd (omega arith))
-standing-iff (some K) = (λ t. refl, λ e. tt)
-
-undefined-iff : (t : Trail) (l : Literal) → T (undefined t l) ↔ Undefined t l
-undefined-iff t l = (out, back)
-  where
-    out : T (undefined t l) → Undefined t l
-    out h = let (a, b) = not-or (onTrail l t) (onTrail (complement l) t) h in record { not-it = not-on-out t l a; not-complement = not-on-out t (complement l) b }
-
-    back : Undefined t l → T (undefined t l)
-    back h = not-or-in (onTrail l t) (onTrail (complement l) t) (not-on-in t l (h .not-it)) (not-on-in t (complement l) (h .not-complement))
-
-others-false-iff : (t : Trail) (τ : List ℕ) (g : Literal) (ls : List Literal) → T (othersFalse t τ g ls) ↔ ((m : Literal) → List·Memᴰ m ls → ¬ (ground τ m ≡ g) → False t (ground τ m))
-others-false-iff t τ g ls = (λ h m i. other-false-out t (ground τ m) g (allOf-out test ls h i), λ h. allOf-in test ls (λ m i. other-false-in t (ground τ m) g (h m i)))
-  where
-    test : Literal → Bool
-    test m = sameLiteral (ground τ m) g || isFalse t (ground τ m)
-
-all-false-iff : (t : Trail) (τ : List ℕ) (ls : List Literal) → T (allFalse t τ ls) ↔ ((m : Literal) → List·Memᴰ m ls → False t (ground τ m))
-all-false-iff t τ ls = (
-  λ h m i. on-out t (complement (ground τ m)) (allOf-out (λ m. isFalse t (ground τ m)) ls h i),
-  λ h. allOf-in (λ m. isFalse t (ground τ m)) ls (λ m i. on-in t (complement (ground τ m)) (h m i)),
-)
-
--- Three tests joined
-three : (a b c : Bool) → T (a && (b && c)) → T a × T b × T c
-three a b c t = (and-l a (b && c) t, and-l b c (and-r a (b && c) t), and-r b c (and-r a (b && c) t))
-
-three-in : (a b c : Bool) → T a → T b → T c → T (a && (b && c))
-three-in a b c s t u = and-i a (b && c) s (and-i b c t u)
-
-pub limited-iff : (C : Clause) → T (withinLimits C) ↔ Limited C
-limited-iff C = (out, λ h. three-in v a l (le→leb (C .variables) mostVariables (h .few-variables)) (le→leb (length (C .atoms)) mostAtoms (h .few-atoms)) (le→leb (length (C .literals)) mostLiterals (h .few-literals)))
-  where
-    v : Bool
-    v = leb (C .variables) mostVariables
-
-    a : Bool
-    a = leb (length (C .atoms)) mostAtoms
-
-    l : Bool
-    l = leb (length (C .literals)) mostLiterals
-
-    out : T (withinLimits C) → Limited C
-    out t =
-        let (x, y, z) = three v a l t in
-        record { few-variables = leb→le (C .variables) mostVariables x; few-atoms = leb→le (length (C .atoms)) mostAtoms y; few-literals = leb→le (length (C .literals)) mostLiterals z }
+pub limited-says : (C : Clause) → T (withinLimits C) ↔ Limited C
+limited-says C =
+    says-also (and-says (leb (C .variables) mostVariables) _ (leb-says (C .variables) mostVariables) (and-says (leb (length (C .atoms)) mostAtoms) _ (leb-says (length (C .atoms)) mostAtoms) (leb-says (length (C .literals)) mostLiterals)))
+    (λ h. record { few-variables = h .0; few-atoms = h .1 .0; few-literals = h .1 .1 }) (λ h. (h .few-variables, (h .few-atoms, h .few-literals)))
 
 -- ---- the last entry
 
-last-propagated-iff : (t : Trail) (g : Literal) → (T (lastIsPropagated t) × T (sameLiteral (complement (lastLiteral t)) g)) ↔ LastPropagated t (complement g)
-last-propagated-iff t g = (out t, back)
+last-propagated-says : (t : Trail) (g : Literal) → (T (lastIsPropagated t) × T (sameLiteral (complement (lastLiteral t)) g)) ↔ LastPropagated t (complement g)
+last-propagated-says t g = (out t, back)
   where
     out : (t : Trail) → T (lastIsPropagated t) × T (sameLiteral (complement (lastLiteral t)) g) → LastPropagated t (complement g)
     out [] (h, k) = absurd h
@@ -125,27 +90,20 @@ last-propagated-iff t g = (out t, back)
     back : LastPropagated t (complement g) → T (lastIsPropagated t) × T (sameLiteral (complement (lastLiteral t)) g)
     back h = rw (h .is) (tt, same-literal (complement-twice g))
 
-last-goes-iff : (K : Instanced) (t : Trail) → (T (nonempty t) × T (not (complementInConflict K t))) ↔ LastGoes K t
-last-goes-iff K [] = (λ h. absurd (h .0), λ h. absurd h)
-last-goes-iff K (foreground l o ∷ t) = (out, back)
-  where
-    test : Literal → Bool
-    test m = sameLiteral (complement l) (ground (K .instance) m)
-
-    out : T true × T (not (anyOf test (K .clause .literals))) → LastGoes K (foreground l o ∷ t)
-    out (h, k) m i e = T-not (anyOf test (K .clause .literals)) k (anyOf-in test (K .clause .literals) i (same-literal e))
-
-    back : LastGoes K (foreground l o ∷ t) → T true × T (not (anyOf test (K .clause .literals)))
-    back h = (tt, not-T (anyOf test (K .clause .literals)) (λ k. let (m, i, e) = anyOf-out test (K .clause .literals) k in h m i (sameLiteral→eq (complement l) (ground (K .instance) m) e)))
-last-goes-iff K (background a ∷ t) = (λ h. tt, λ h. (tt, tt))
+last-goes-says : (K : Instanced) (t : Trail) → (T (nonempty t) × T (not (complementInConflict K t))) ↔ LastGoes K t
+last-goes-says K [] = (λ h. absurd (h .0), λ h. absurd h)
+last-goes-says K (foreground l o ∷ t) =
+    let test : Literal → Bool = λ m. sameLiteral (complement l) (ground (K .instance) m) in
+    let some-says = any-says test (λ m. complement l ≡ ground (K .instance) m) (λ m. same-says (complement l) (ground (K .instance) m)) (K .clause .literals) in
+    let none-of = not-says (anyOf test (K .clause .literals)) some-says in
+    (λ h m i e. none-of .0 (h .1) (m, i, e), λ h. (tt, none-of .1 (λ (m, i, e). h m i e)))
+last-goes-says K (background a ∷ t) = (λ h. tt, λ h. (tt, tt))
 
 -- ---- levels
 
-not-again-iff : (g : Literal) (D : List Literal) → T (not (anyOf (sameLiteral g) D)) ↔ (¬ List·Memᴰ g D)
-not-again-iff g D = (λ k i. T-not (anyOf (sameLiteral g) D) k (anyOf-in (sameLiteral g) D i (sameLiteral-refl g)), λ h. not-T (anyOf (sameLiteral g) D) (λ k. h (out k)))
-  where
-    out : T (anyOf (sameLiteral g) D) → List·Memᴰ g D
-    out k = let (m, i, e) = anyOf-out (sameLiteral g) D k in subst (λ x. List·Memᴰ x D) (sym (sameLiteral→eq g m e)) i
+not-again-says : (g : Literal) (D : List Literal) → T (not (anyOf (sameLiteral g) D)) ↔ (¬ List·Memᴰ g D)
+not-again-says g D =
+    not-says (anyOf (sameLiteral g) D) (says-also (any-says (sameLiteral g) (λ m. g ≡ m) (same-says g) D) (λ (m, i, e). Memᴰ·cast e i) (λ i. (g, i, refl)))
 
 largest-level : (t : Trail) (D : List Literal) → Largest t D (largestLevel t D)
 largest-level t [] = record { at-most = λ m i. absurd (List·Memᴰ·not-nil i); reached = inl (refl, refl) }
@@ -185,220 +143,135 @@ largest-one t D i a =
 
 -- ---- the rules
 
+-- The end of a list of checks
+nothing : Unit {0} ↔ Unit {0}
+nothing = (λ u. u, λ u. u)
+
 module _ (N : Numbers) (s : State) (b : Bool) where
   -- The Boolean tells whether the question's atoms are possible.
   abbrev Tells : Step → Type 0
   Tells x = T b ↔ Possible N (s .constants) (question s x)
 
-  propagate-iff : (c l : ℕ) (τ : List ℕ) → Tells (Propagate c l τ) → AllOk (asks b s (Propagate c l τ)) ↔ Allowed N s (Propagate c l τ)
-  propagate-iff c l τ d = (out, back)
-    where
-      C : Clause
-      C = clauseAt (clauses s) c
+  propagate-says : (c l : ℕ) (τ : List ℕ) → Tells (Propagate c l τ) → AllOk (asks b s (Propagate c l τ)) ↔ Allowed N s (Propagate c l τ)
+  propagate-says c l τ d =
+      let C = clauseAt (clauses s) c in
+      let g = ground τ (literalAt C l) in
+      let named = and-says (clauseExists (clauses s) c) _ (names-says (clauses s) c) (and-says (literalExists C l) _ (names-says (C .literals) l) (instance-says (s .constants) C τ)) in
+      says-also
+      (leb-says (length τ) mostVariables & none-says (s .conflict) & named & undefined-says (s .trail) g & others-false-says (s .trail) τ g (C .literals) & d
+      & leb-says (length (next s (Propagate c l τ) .trail)) mostEntries & nothing)
+      (λ (short, (calm, ((nc, (nl, (fits, ofs))), (undef, (others, (poss, (room, u))))))). record {
+        clause-named = nc;
+        literal-named = nl;
+        instance = record { short = short; for-each-variable = fits; of-constants = ofs };
+        no-conflict = calm;
+        undefined = undef;
+        others-false = others;
+        possible = poss;
+        room = room;
+      })
+      (λ h. (h .instance .short, (h .no-conflict, ((h .clause-named, (h .literal-named, (h .instance .for-each-variable, h .instance .of-constants))), (h .undefined, (h .others-false, (h .possible, (h .room, tt))))))))
 
-      g : Literal
-      g = ground τ (literalAt C l)
+  decide-says : (c l g : ℕ) (τ : List ℕ) → AllOk (asks b s (Decide c l g τ)) ↔ Allowed N s (Decide c l g τ)
+  decide-says c l g τ =
+      let C = clauseAt (clauses s) c in
+      let named = and-says (clauseExists (clauses s) c) _ (names-says (clauses s) c) (and-says (literalExists C l) _ (names-says (C .literals) l) (instance-says (s .constants) C τ)) in
+      says-also
+      (leb-says (length τ) mostVariables & leb-says g 1 & none-says (s .conflict) & named & undefined-says (s .trail) (decidedLiteral C (l - 1) (isOne g) τ)
+      & leb-says (suc (length (s .trail))) mostEntries & nothing)
+      (λ (short, (sign, (calm, ((nc, (nl, (fits, ofs))), (undef, (room, u)))))). record {
+        clause-named = nc;
+        literal-named = nl;
+        sign-named = sign;
+        instance = record { short = short; for-each-variable = fits; of-constants = ofs };
+        no-conflict = calm;
+        undefined = undef;
+        room = room;
+      })
+      (λ h. (h .instance .short, (h .sign-named, (h .no-conflict, ((h .clause-named, (h .literal-named, (h .instance .for-each-variable, h .instance .of-constants))), (h .undefined, (h .room, tt)))))))
 
-      out : AllOk (asks b s (Propagate c l τ)) → Allowed N s (Propagate c l τ)
-      out (short, (calm, (named, (undef, (others, (poss, (room, u))))))) =
-          let (x, y, z) = three (clauseExists (clauses s) c) (literalExists C l) (instanceFits (s .constants) C τ) named in
-          record {
-            clause-named = names-iff (clauses s) c .0 x;
-            literal-named = names-iff (C .literals) l .0 y;
-            instance = instance-iff (s .constants) C τ .0 (short, z);
-            no-conflict = none-iff (s .conflict) .0 calm;
-            undefined = undefined-iff (s .trail) g .0 undef;
-            others-false = others-false-iff (s .trail) τ g (C .literals) .0 others;
-            possible = d .0 poss;
-            room = leb→le (length (next s (Propagate c l τ) .trail)) mostEntries room;
-          }
-
-      back : Allowed N s (Propagate c l τ) → AllOk (asks b s (Propagate c l τ))
-      back h =
-          let (short, fits) = instance-iff (s .constants) C τ .1 (h .instance) in
-          let named = three-in (clauseExists (clauses s) c) (literalExists C l) (instanceFits (s .constants) C τ) (names-iff (clauses s) c .1 (h .clause-named)) (names-iff (C .literals) l .1 (h .literal-named)) fits in
-          let calm = none-iff (s .conflict) .1 (h .no-conflict) in
-          let undef = undefined-iff (s .trail) g .1 (h .undefined) in
-          let others = others-false-iff (s .trail) τ g (C .literals) .1 (h .others-false) in
-          let room = le→leb (length (next s (Propagate c l τ) .trail)) mostEntries (h .room) in
-          (short, (calm, (named, (undef, (others, (d .1 (h .possible), (room, tt)))))))
-
-  decide-iff : (c l g : ℕ) (τ : List ℕ) → AllOk (asks b s (Decide c l g τ)) ↔ Allowed N s (Decide c l g τ)
-  decide-iff c l g τ = (out, back)
-    where
-      C : Clause
-      C = clauseAt (clauses s) c
-
-      L : Literal
-      L = decidedLiteral C (l - 1) (isOne g) τ
-
-      out : AllOk (asks b s (Decide c l g τ)) → Allowed N s (Decide c l g τ)
-      out (short, (sign, (calm, (named, (undef, (room, u)))))) =
-          let (x, y, z) = three (clauseExists (clauses s) c) (literalExists C l) (instanceFits (s .constants) C τ) named in
-          record {
-            clause-named = names-iff (clauses s) c .0 x;
-            literal-named = names-iff (C .literals) l .0 y;
-            sign-named = leb→le g 1 sign;
-            instance = instance-iff (s .constants) C τ .0 (short, z);
-            no-conflict = none-iff (s .conflict) .0 calm;
-            undefined = undefined-iff (s .trail) L .0 undef;
-            room = leb→le (suc (length (s .trail))) mostEntries room;
-          }
-
-      back : Allowed N s (Decide c l g τ) → AllOk (asks b s (Decide c l g τ))
-      back h =
-          let (short, fits) = instance-iff (s .constants) C τ .1 (h .instance) in
-          let sign = le→leb g 1 (h .sign-named) in
-          let named = three-in (clauseExists (clauses s) c) (literalExists C l) (instanceFits (s .constants) C τ) (names-iff (clauses s) c .1 (h .clause-named)) (names-iff (C .literals) l .1 (h .literal-named)) fits in
-          let calm = none-iff (s .conflict) .1 (h .no-conflict) in
-          let undef = undefined-iff (s .trail) L .1 (h .undefined) in
-          let room = le→leb (suc (length (s .trail))) mostEntries (h .room) in
-          (short, (sign, (calm, (named, (undef, (room, tt))))))
-
-  conflict-iff : (c : ℕ) (τ : List ℕ) → Tells (Conflict c τ) → AllOk (asks b s (Conflict c τ)) ↔ Allowed N s (Conflict c τ)
-  conflict-iff c τ d = (out, back)
-    where
-      C : Clause
-      C = clauseAt (clauses s) c
-
-      out : AllOk (asks b s (Conflict c τ)) → Allowed N s (Conflict c τ)
-      out (short, (calm, (named, (allf, (poss, u))))) =
-          let x = and-l (clauseExists (clauses s) c) (instanceFits (s .constants) C τ) named in
-          let z = and-r (clauseExists (clauses s) c) (instanceFits (s .constants) C τ) named in
-          record {
-            clause-named = names-iff (clauses s) c .0 x;
-            instance = instance-iff (s .constants) C τ .0 (short, z);
-            no-conflict = none-iff (s .conflict) .0 calm;
-            all-false = all-false-iff (s .trail) τ (C .literals) .0 allf;
-            possible = d .0 poss;
-          }
-
-      back : Allowed N s (Conflict c τ) → AllOk (asks b s (Conflict c τ))
-      back h =
-          let (short, fits) = instance-iff (s .constants) C τ .1 (h .instance) in
-          let named = and-i (clauseExists (clauses s) c) (instanceFits (s .constants) C τ) (names-iff (clauses s) c .1 (h .clause-named)) fits in
-          let calm = none-iff (s .conflict) .1 (h .no-conflict) in
-          let allf = all-false-iff (s .trail) τ (C .literals) .1 (h .all-false) in
-          (short, (calm, (named, (allf, (d .1 (h .possible), tt)))))
+  conflict-says : (c : ℕ) (τ : List ℕ) → Tells (Conflict c τ) → AllOk (asks b s (Conflict c τ)) ↔ Allowed N s (Conflict c τ)
+  conflict-says c τ d =
+      let C = clauseAt (clauses s) c in
+      let named = and-says (clauseExists (clauses s) c) _ (names-says (clauses s) c) (instance-says (s .constants) C τ) in
+      says-also (leb-says (length τ) mostVariables & none-says (s .conflict) & named & all-false-says (s .trail) τ (C .literals) & d & nothing)
+      (λ (short, (calm, ((nc, (fits, ofs)), (allf, (poss, u))))). record {
+        clause-named = nc;
+        instance = record { short = short; for-each-variable = fits; of-constants = ofs };
+        no-conflict = calm;
+        all-false = allf;
+        possible = poss;
+      })
+      (λ h. (h .instance .short, (h .no-conflict, ((h .clause-named, (h .instance .for-each-variable, h .instance .of-constants)), (h .all-false, (h .possible, tt))))))
 
   abbrev K : Instanced
   K = conflictOf (s .conflict)
 
-  resolve-iff : (l : ℕ) → AllOk (asks b s (Resolve l)) ↔ Allowed N s (Resolve l)
-  resolve-iff l = (out, back)
-    where
-      out : AllOk (asks b s (Resolve l)) → Allowed N s (Resolve l)
-      out (stand, (named, (last, (same, (room, u))))) = record {
-        standing = standing-iff (s .conflict) .0 stand;
-        literal-named = names-iff (K .clause .literals) l .0 named;
-        last-propagated = last-propagated-iff (s .trail) (literalInstance K l) .0 (last, same);
-        room = limited-iff (conflictOf (next s (Resolve l) .conflict) .clause) .0 room;
-      }
+  resolve-says : (l : ℕ) → AllOk (asks b s (Resolve l)) ↔ Allowed N s (Resolve l)
+  resolve-says l =
+      let last = last-propagated-says (s .trail) (literalInstance K l) in
+      let room = limited-says (conflictOf (next s (Resolve l) .conflict) .clause) in
+      let stand = standing-says (s .conflict) in
+      let named = names-says (K .clause .literals) l in (
+        λ (a, (n, (p, (q, (r, u))))). record { standing = stand .0 a; literal-named = named .0 n; last-propagated = last .0 (p, q); room = room .0 r },
+        λ h. let (p, q) = last .1 (h .last-propagated) in (stand .1 (h .standing), (named .1 (h .literal-named), (p, (q, (room .1 (h .room), tt))))),
+      )
 
-      back : Allowed N s (Resolve l) → AllOk (asks b s (Resolve l))
-      back h =
-          let stand = standing-iff (s .conflict) .1 (h .standing) in
-          let named = names-iff (K .clause .literals) l .1 (h .literal-named) in
-          let (last, same) = last-propagated-iff (s .trail) (literalInstance K l) .1 (h .last-propagated) in
-          let room = limited-iff (conflictOf (next s (Resolve l) .conflict) .clause) .1 (h .room) in
-          (stand, (named, (last, (same, (room, tt)))))
+  factorize-says : (i j : ℕ) → AllOk (asks b s (Factorize i j)) ↔ Allowed N s (Factorize i j)
+  factorize-says i j =
+      let named = and-says (literalExists (K .clause) i) _ (names-says (K .clause .literals) i) (and-says (literalExists (K .clause) j) _ (names-says (K .clause .literals) j) (not-says (eqb i j) (eqb-says i j))) in
+      says-also (standing-says (s .conflict) & named & same-says (literalInstance K i) (literalInstance K j) & nothing)
+      (λ (stand, ((ni, (nj, different)), (same, u))). record { standing = stand; literal-named = ni; other-named = nj; different = different; same-instance = same })
+      (λ h. (h .standing, ((h .literal-named, (h .other-named, h .different)), (h .same-instance, tt))))
 
-  factorize-iff : (i j : ℕ) → AllOk (asks b s (Factorize i j)) ↔ Allowed N s (Factorize i j)
-  factorize-iff i j = (out, back)
-    where
-      out : AllOk (asks b s (Factorize i j)) → Allowed N s (Factorize i j)
-      out (stand, (named, (same, u))) =
-          let (x, y, z) = three (literalExists (K .clause) i) (literalExists (K .clause) j) (not (eqb i j)) named in
-          record {
-            standing = standing-iff (s .conflict) .0 stand;
-            literal-named = names-iff (K .clause .literals) i .0 x;
-            other-named = names-iff (K .clause .literals) j .0 y;
-            different = not-eqb i j z;
-            same-instance = sameLiteral→eq (literalInstance K i) (literalInstance K j) same;
-          }
+  skip-says : AllOk (asks b s Skip) ↔ Allowed N s Skip
+  skip-says =
+      let stand = standing-says (s .conflict) in
+      let last = last-goes-says K (s .trail) in
+      (λ (a, (p, (q, u))). record { standing = stand .0 a; last-goes = last .0 (p, q) }, λ h. let (p, q) = last .1 (h .last-goes) in (stand .1 (h .standing), (p, (q, tt))))
 
-      back : Allowed N s (Factorize i j) → AllOk (asks b s (Factorize i j))
-      back h =
-          let stand = standing-iff (s .conflict) .1 (h .standing) in
-          let named = three-in (literalExists (K .clause) i) (literalExists (K .clause) j) (not (eqb i j)) (names-iff (K .clause .literals) i .1 (h .literal-named)) (names-iff (K .clause .literals) j .1 (h .other-named)) (not-T (eqb i j) (λ e. h .different (eqb→eq i j e))) in
-          let same = same-literal (h .same-instance) in
-          (stand, (named, (same, tt)))
+  backtrack-says : (l : ℕ) → Tells (Backtrack l) → AllOk (asks b s (Backtrack l)) ↔ Allowed N s (Backtrack l)
+  backtrack-says l d =
+      let t = s .trail in
+      let D = otherInstances K l in
+      let i = backLevel K l t in
+      let room = and-says (leb (length (next s (Backtrack l) .trail)) mostEntries) _ (leb-says (length (next s (Backtrack l) .trail)) mostEntries) (leb-says (suc (length (s .learned))) mostLearned) in
+      says-also
+      (standing-says (s .conflict) & names-says (K .clause .literals) l & not-again-says (literalInstance K l) D & ltb-says i (levelOf (literalInstance K l) t) & d & room & nothing)
+      (λ (stand, (named, (once, (higher, (poss, ((trail, learned), u)))))). record {
+        standing = stand;
+        literal-named = named;
+        not-again = once;
+        i = i;
+        largest = largest-level t D;
+        above = higher;
+        possible = poss;
+        trail-room = trail;
+        learned-room = learned;
+      })
+      (λ h.
+      let e : h .i ≡ i = largest-one t D (h .i) (h .largest) in
+      (h .standing, (h .literal-named, (h .not-again, (rw e at (h .above), (rw e at (h .possible), ((h .trail-room, h .learned-room), tt)))))))
 
-  skip-iff : AllOk (asks b s Skip) ↔ Allowed N s Skip
-  skip-iff = (out, back)
-    where
-      out : AllOk (asks b s Skip) → Allowed N s Skip
-      out (stand, (some-entry, (away, u))) = record { standing = standing-iff (s .conflict) .0 stand; last-goes = last-goes-iff K (s .trail) .0 (some-entry, away) }
+  grow-says : (n : ℕ) → AllOk (asks b s (Grow n)) ↔ Allowed N s (Grow n)
+  grow-says n =
+      says-also (none-says (s .conflict) & leb-says 1 n & leb-says (s .constants + n) mostConstants & nothing)
+      (λ (calm, (more, (room, u))). record { no-conflict = calm; some-more = more; room = room }) (λ h. (h .no-conflict, (h .some-more, (h .room, tt))))
 
-      back : Allowed N s Skip → AllOk (asks b s Skip)
-      back h =
-          let stand = standing-iff (s .conflict) .1 (h .standing) in
-          let (some-entry, away) = last-goes-iff K (s .trail) .1 (h .last-goes) in
-          (stand, (some-entry, (away, tt)))
-
-  backtrack-iff : (l : ℕ) → Tells (Backtrack l) → AllOk (asks b s (Backtrack l)) ↔ Allowed N s (Backtrack l)
-  backtrack-iff l d = (out, back)
-    where
-      D : List Literal
-      D = otherInstances K l
-
-      out : AllOk (asks b s (Backtrack l)) → Allowed N s (Backtrack l)
-      out (stand, (named, (once, (higher, (poss, (room, u)))))) =
-          let fits = leb (length (next s (Backtrack l) .trail)) mostEntries in
-          let more = leb (suc (length (s .learned))) mostLearned in
-          record {
-            standing = standing-iff (s .conflict) .0 stand;
-            literal-named = names-iff (K .clause .literals) l .0 named;
-            not-again = not-again-iff (literalInstance K l) D .0 once;
-            i = backLevel K l (s .trail);
-            largest = largest-level (s .trail) D;
-            above = ltb→lt (backLevel K l (s .trail)) (levelOf (literalInstance K l) (s .trail)) higher;
-            possible = d .0 poss;
-            trail-room = leb→le (length (next s (Backtrack l) .trail)) mostEntries (and-l fits more room);
-            learned-room = leb→le (suc (length (s .learned))) mostLearned (and-r fits more room);
-          }
-
-      back : Allowed N s (Backtrack l) → AllOk (asks b s (Backtrack l))
-      back h =
-          let fits = leb (length (next s (Backtrack l) .trail)) mostEntries in
-          let more = leb (suc (length (s .learned))) mostLearned in
-          let e : h .i ≡ backLevel K l (s .trail) = largest-one (s .trail) D (h .i) (h .largest) in
-          let stand = standing-iff (s .conflict) .1 (h .standing) in
-          let named = names-iff (K .clause .literals) l .1 (h .literal-named) in
-          let once = not-again-iff (literalInstance K l) D .1 (h .not-again) in
-          let higher = lt→ltb (backLevel K l (s .trail)) (levelOf (literalInstance K l) (s .trail)) (rw e at (h .above)) in
-          let poss = d .1 (rw e at (h .possible)) in
-          let room = and-i fits more (le→leb (length (next s (Backtrack l) .trail)) mostEntries (h .trail-room)) (le→leb (suc (length (s .learned))) mostLearned (h .learned-room)) in
-          (stand, (named, (once, (higher, (poss, (room, tt))))))
-
-  grow-iff : (n : ℕ) → AllOk (asks b s (Grow n)) ↔ Allowed N s (Grow n)
-  grow-iff n = (out, back)
-    where
-      out : AllOk (asks b s (Grow n)) → Allowed N s (Grow n)
-      out (calm, (more, (room, u))) = record { no-conflict = none-iff (s .conflict) .0 calm; some-more = leb→le 1 n more; room = leb→le (s .constants + n) mostConstants room }
-
-      back : Allowed N s (Grow n) → AllOk (asks b s (Grow n))
-      back h = (none-iff (s .conflict) .1 (h .no-conflict), (le→leb 1 n (h .some-more), (le→leb (s .constants + n) mostConstants (h .room), tt)))
-
-  allowed-iff : (x : Step) → Tells x → AllOk (asks b s x) ↔ Allowed N s x
-  allowed-iff (Propagate c l τ) d = propagate-iff c l τ d
-  allowed-iff (Decide c l g τ) d = decide-iff c l g τ
-  allowed-iff (Conflict c τ) d = conflict-iff c τ d
-  allowed-iff (Resolve l) d = resolve-iff l
-  allowed-iff (Factorize i j) d = factorize-iff i j
-  allowed-iff Skip d = skip-iff
-  allowed-iff (Backtrack l) d = backtrack-iff l d
-  allowed-iff (Grow n) d = grow-iff n
-  allowed-iff (Unknown r) d = (λ k. absurd (k .0), λ h. absurd h)
+  allowed-says : (x : Step) → Tells x → AllOk (asks b s x) ↔ Allowed N s x
+  allowed-says (Propagate c l τ) d = propagate-says c l τ d
+  allowed-says (Decide c l g τ) d = decide-says c l g τ
+  allowed-says (Conflict c τ) d = conflict-says c τ d
+  allowed-says (Resolve l) d = resolve-says l
+  allowed-says (Factorize i j) d = factorize-says i j
+  allowed-says Skip d = skip-says
+  allowed-says (Backtrack l) d = backtrack-says l d
+  allowed-says (Grow n) d = grow-says n
+  allowed-says (Unknown r) d = (λ k. absurd (k .0), λ h. absurd h)
 
 pub accepted-exactly-if-allowed : (N : Numbers) → AcceptedExactlyIfAllowed N
-accepted-exactly-if-allowed N s x a j = (out, back)
-  where
-    meets : AllOk (asks (j .possible) s x) ↔ Allowed N s x
-    meets = allowed-iff N s (j .possible) x (j .decides)
-
-    out : a .number ≡ accepted → Allowed N s x
-    out e = meets .0 (passed accepted (asks (j .possible) s x) (all-rise (j .possible) s x) (sym (ap (λ (r : Answer). r .number) (j .is)) ∙ e))
-
-    back : Allowed N s x → a .number ≡ accepted
-    back h = ap (λ (r : Answer). r .number) (j .is) ∙ pass (asks (j .possible) s x) (meets .1 h)
+accepted-exactly-if-allowed N s x a j =
+    let cs = asks (j .possible) s x in
+    let number = ap (λ (r : Answer). r .number) (j .is) in
+    let meets = allowed-says N s (j .possible) x (j .decides) in
+    (λ e. meets .0 (passed accepted cs (all-rise (j .possible) s x) (sym number ∙ e)), λ h. number ∙ pass cs (meets .1 h))

@@ -3,8 +3,8 @@ use mathlib.Core.Path.{_≡_}
 use mathlib.Core.Logic.{_↔_, _⊎_, inl, inr}
 use mathlib.Core.List.{List, List·Memᴰ}
 use mathlib.Core.Bool.{Bool, _&&_, _||_, false, not, true}
-use Prim.Native.Nat.{_≤_, ℕ}
-use lib.Dec.{T, T-not, eqb, eqb-refl, eqb→eq, leb, leb→le, le→leb, not-T}
+use Prim.Native.Nat.{_<_, _≤_, ℕ}
+use lib.Dec.{T, T-not, eqb, eqb-refl, eqb→eq, leb, leb→le, le→leb, ltb, ltb→lt, lt→ltb, not-T}
 use Rattle.lists.proofs.Members.{allOf-in, allOf-out, anyOf-in, anyOf-out}
 use Rattle.lists.proofs.Tests.{and-i, and-l, and-r, or-l, or-r}
 use Rattle.lists.specs.Lists.{allOf, anyOf}
@@ -17,6 +17,9 @@ eqb-says m n = (eqb→eq m n, λ e. rw e (eqb-refl n))
 
 pub and-says : {P Q : Type 0} (a b : Bool) → T a ↔ P → T b ↔ Q → T (a && b) ↔ (P × Q)
 and-says a b p q = (λ t. (p .0 (and-l a b t), q .0 (and-r a b t)), λ h. and-i a b (p .1 (h .0)) (q .1 (h .1)))
+
+pub ltb-says : (m n : ℕ) → T (ltb m n) ↔ (m < n)
+ltb-says m n = (ltb→lt m n, lt→ltb m n)
 
 pub or-says : {P Q : Type 0} (a b : Bool) → T a ↔ P → T b ↔ Q → T (a || b) ↔ (P ⊎ Q)
 or-says {P} {Q} a b p q = (out a p, back)
@@ -31,6 +34,11 @@ or-says {P} {Q} a b p q = (out a p, back)
 
 pub not-says : {P : Type 0} (a : Bool) → T a ↔ P → T (not a) ↔ (¬ P)
 not-says a p = (λ t h. T-not a t (p .1 h), λ n. not-T a (λ t. n (p .0 t)))
+
+-- Two statements that say two others
+infixr 30 _&_
+pub _&_ : {X Y P Q : Type 0} → X ↔ P → Y ↔ Q → (X × Y) ↔ (P × Q)
+p & q = (λ h. (p .0 (h .0), q .0 (h .1)), λ h. (p .1 (h .0), q .1 (h .1)))
 
 -- A statement that says the same
 pub says-also : {X P Q : Type 0} → X ↔ P → (P → Q) → (Q → P) → X ↔ Q
