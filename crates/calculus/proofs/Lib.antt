@@ -4,7 +4,7 @@ pub mod Instances
 pub mod Truths
 pub mod Derived
 pub mod OnTrail
-pub mod Levels
+pub mod Cuts
 pub mod Answers
 pub mod Conditions
 pub mod Admitting

@@ -10,7 +10,7 @@ pub mod Rules
 pub mod Truth
 pub mod Runs
 pub mod OnTrail
-pub mod Levels
+pub mod Cuts
 pub mod Answers
 pub mod Conditions
 pub mod Admitting

@@ -11,7 +11,7 @@ use Rattle.basis.specs.declared.Literal.{Literal}
 use Rattle.lists.proofs.Denials.{not-or, not-or-in}
 use Rattle.lists.proofs.Tests.{F→eq, Said, T→eq, fails, holds, said}
 use Rattle.calculus.specs.Clauses.{complement, sameLiteral}
-use Rattle.calculus.specs.Levels.{CutBefore, CutJustBefore, LevelCounts, LevelShared}
+use Rattle.calculus.specs.Cuts.{CutBefore, CutJustBefore, LevelCounts, LevelShared}
 use Rattle.calculus.specs.Trails.{Entry, Trail, background, cut, decided, decisions, foreground, isDecision, isLiteral, levelOf, onTrail, propagated}
 use Rattle.calculus.proofs.Merged.{sameLiteral-refl}
 use Rattle.calculus.proofs.OnTrail.{complement-twice, not-on-in, not-on-out}

@@ -1,4 +1,4 @@
--- That levels and the cut of a trail are what the paper says they are. Proved in proofs/Levels.antt. A trail has its last entry first.
+-- That levels and the cut of a trail are what the paper says they are. Proved in proofs/Cuts.antt. A trail has its last entry first.
 use mathlib.Core.Path.{_≡_}
 use mathlib.Core.Logic.{_⊎_}
 use mathlib.Core.List.{[], _++_, _∷_}
