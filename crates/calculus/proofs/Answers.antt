@@ -105,7 +105,7 @@ pub record Accepted (N : Numbers) (s : State) (x : Step) (s′ : State) : Type 0
 -- ---- refusal 12
 
 -- The number is that of a condition that fails.
-fault-given : (n : ℕ) (cs : List Check) → firstRefusal cs ≡ n → ¬ (n ≡ accepted) → T (anyOf (λ c. eqb (c .refusal) n && not (c .ok)) cs)
+pub fault-given : (n : ℕ) (cs : List Check) → firstRefusal cs ≡ n → ¬ (n ≡ accepted) → T (anyOf (λ c. eqb (c .refusal) n && not (c .ok)) cs)
 fault-given n cs e h =
     let (c, m, q, f) = given-fails cs (λ z. h (sym e ∙ z)) in
     anyOf-in (λ (c : Check). eqb (c .refusal) n && not (c .ok)) cs m (and-i (eqb (c .refusal) n) (not (c .ok)) (rw (q ∙ e) (eqb-refl n)) f)

@@ -8,3 +8,8 @@ pub mod Cuts
 pub mod Answers
 pub mod Conditions
 pub mod Admitting
+pub mod Trails
+pub mod Class
+pub mod Levels
+pub mod Invariant
+pub mod Demands

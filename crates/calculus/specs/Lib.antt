@@ -7,10 +7,11 @@ pub mod Class
 pub mod States
 pub mod Admission
 pub mod Rules
-pub mod Truth
-pub mod Runs
 pub mod OnTrail
 pub mod Cuts
-pub mod Answers
 pub mod Conditions
+pub mod Answers
 pub mod Admitting
+pub mod Truth
+pub mod Runs
+pub mod Demands

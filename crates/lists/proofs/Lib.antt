@@ -1,6 +1,7 @@
 -- Laws of the lists and tests of specs/.
 pub mod Tests
-pub mod Members
-pub mod Counting
 pub mod Denials
+pub mod Members
 pub mod Meanings
+pub mod Counting
+pub mod Walk
