@@ -11,7 +11,7 @@ use Rattle.basis.specs.Refusals.{accepted}
 use Rattle.basis.specs.declared.Atom.{Atom}
 use Rattle.lists.proofs.Tests.{and-l, and-r}
 use Rattle.calculus.specs.Admission.{admissionRefusal}
-use Rattle.calculus.specs.Examples.{Admits, Example, Goes, LastReason, No, Runs, Shown, Tried, TwelveExamples, Yes, over, then, twelve}
+use Rattle.calculus.specs.Examples.{Admits, Example, Goes, LastReason, No, Runs, Shown, Tried, TwelveExamples, Yes, over, then}
 use Rattle.calculus.specs.Merging.{closeUp, factored, merge, reason, resolvent}
 use Rattle.calculus.specs.Rules.{answer, lastReason, question}
 use Rattle.calculus.specs.States.{State, clauses}
@@ -48,9 +48,10 @@ Computed (Admits n arities cs) = admissionRefusal n arities cs .number ≡ accep
 Computed (Runs s xs s′) = (ws : List ℤ) × T (goesBy ws s xs) × (final s xs ≡ s′)
 Computed (LastReason s R) = lastReason (clauses s) (s .trail) .of ≡ R
 
-abbrev AllComputed : List Example → Type 0
-AllComputed [] = Unit {0}
-AllComputed (x ∷ xs) = Computed x × AllComputed xs
+infixr 20 _also_
+data AllComputed : List Example → Type 0 where
+  all : AllComputed []
+  _also_ : {y : Example} {xs : List Example} → Computed y → AllComputed xs → AllComputed (y ∷ xs)
 
 shown : (x : Example) → Computed x → Shown x
 shown (Yes n az) (ws, t) = possible-by n az ws t
@@ -59,12 +60,12 @@ shown (Admits n arities cs) e = admitted-exactly n arities cs .0 e
 shown (Runs s xs s′) (ws, t, e) = subst (Goes s xs) e (goes ws s xs t)
 shown (LastReason s R) e = e
 
-all-shown : (xs : List Example) → AllComputed xs → (x : Example) → List·Memᴰ x xs → Shown x
-all-shown [] k x m = absurd (List·Memᴰ·not-nil m)
-all-shown (y ∷ xs) k x m = go (λ h. all-shown xs (k .1) x h) (List·Memᴰ·cases-cons m)
+all-shown : {xs : List Example} → AllComputed xs → (x : Example) → List·Memᴰ x xs → Shown x
+all-shown all x m = absurd (List·Memᴰ·not-nil m)
+all-shown (_also_ {y} {xs} k ks) x m = go (λ h. all-shown ks x h) (List·Memᴰ·cases-cons m)
   where
     go : (List·Memᴰ x xs → Shown x) → (x ≡ y) ⊎ List·Memᴰ x xs → Shown x
-    go ih (inl e) = subst Shown (sym e) (shown y (k .0))
+    go ih (inl e) = subst Shown (sym e) (shown y k)
     go ih (inr h) = ih h
 
 abbrev atom : ℕ → ℕ → ℤ → Atom
@@ -77,66 +78,29 @@ five = pos 5 ∷ []
 pub twelve-examples : TwelveExamples
 unfolding resolvent merge closeUp reason factored
 twelve-examples =
-    all-shown twelve (
-      -- E1 to E6
-      ([], tt),
-      (
-        (1, (atom 1 2 (negsuc 0) ∷ atom 2 3 (negsuc 0) ∷ atom 3 0 (pos 2) ∷ atom 0 1 (negsuc 0) ∷ []), tt),
-        (
-          (pos 1 ∷ pos 2 ∷ [], tt),
-          (
-            (1, (atom 1 2 (negsuc 0) ∷ atom 2 0 (pos 5) ∷ atom 0 1 (negsuc 4) ∷ []), tt),
-            (
-              (1, (atom 1 1 (negsuc 0) ∷ []), tt),
-              (
-                (pos 0 ∷ [], tt),
-                (
-                  (1, (atom 1 2 (negsuc 3) ∷ atom 2 0 (pos 3) ∷ atom 0 1 (pos 0) ∷ []), tt),
-                  (
-                    (pos 0 ∷ pos 4 ∷ [], tt),
-                    -- E7
-                    (
-                      refl,
-                      (
-                        (five, tt, refl),
-                        -- E8
-                        (
-                          refl,
-                          (
-                            (five, tt, refl),
-                            (
-                              refl,
-                              -- E9
-                              (
-                                refl,
-                                (
-                                  (five, tt, refl),
-                                  -- E10 to E12
-                                  (
-                                    refl,
-                                    (
-                                      (five, tt, refl),
-                                      (
-                                        (five, tt, refl),
-                                        (
-                                          (five, tt, refl),
-                                          tt,
-                                        ),
-                                      ),
-                                    ),
-                                  ),
-                                ),
-                              ),
-                            ),
-                          ),
-                        ),
-                      ),
-                    ),
-                  ),
-                ),
-              ),
-            ),
-          ),
-        ),
-      ),
-    )
+    all-shown (
+    -- E1 to E6
+    ([], tt)
+    also (1, (atom 1 2 (negsuc 0) ∷ atom 2 3 (negsuc 0) ∷ atom 3 0 (pos 2) ∷ atom 0 1 (negsuc 0) ∷ []), tt)
+    also (pos 1 ∷ pos 2 ∷ [], tt)
+    also (1, (atom 1 2 (negsuc 0) ∷ atom 2 0 (pos 5) ∷ atom 0 1 (negsuc 4) ∷ []), tt)
+    also (1, (atom 1 1 (negsuc 0) ∷ []), tt)
+    also (pos 0 ∷ [], tt)
+    also (1, (atom 1 2 (negsuc 3) ∷ atom 2 0 (pos 3) ∷ atom 0 1 (pos 0) ∷ []), tt)
+    also (pos 0 ∷ pos 4 ∷ [], tt)
+    -- E7
+    also refl
+    also (five, tt, refl)
+    -- E8
+    also refl
+    also (five, tt, refl)
+    also refl
+    -- E9
+    also refl
+    also (five, tt, refl)
+    -- E10 to E12
+    also refl
+    also (five, tt, refl)
+    also (five, tt, refl)
+    also (five, tt, refl)
+    also all)
