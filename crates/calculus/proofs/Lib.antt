@@ -15,3 +15,4 @@ pub mod Invariant
 pub mod Demands
 pub mod Certificates
 pub mod Examples
+pub mod FalseTools

@@ -16,3 +16,4 @@ pub mod Truth
 pub mod Runs
 pub mod Demands
 pub mod Examples
+pub mod FalseTools
