@@ -13,3 +13,6 @@ pub mod Class
 pub mod Levels
 pub mod Invariant
 pub mod Demands
+pub mod Certificates
+pub mod Examples
+pub mod FalseTools

@@ -15,3 +15,5 @@ pub mod Admitting
 pub mod Truth
 pub mod Runs
 pub mod Demands
+pub mod Examples
+pub mod FalseTools
