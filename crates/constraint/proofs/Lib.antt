@@ -7,3 +7,4 @@ pub mod Bare
 pub mod Steps
 pub mod Answers
 pub mod Refusals
+pub mod Decided
