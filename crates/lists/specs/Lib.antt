@@ -1,2 +1,3 @@
 -- Lists and tests that compute, for the calculus and the code over it.
 pub mod Lists
+pub mod Arrays
