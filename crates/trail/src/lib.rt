@@ -4,7 +4,7 @@
 ghost use mathlib.Core.Path.{_≡_};
 ghost use mathlib.Core.Logic.{_↔_};
 ghost use mathlib.Core.List.{[], _∷_, _++_};
-ghost use mathlib.Core.Bool.{false, _&&_, _||_, cond};
+ghost use mathlib.Core.Bool.{false, _&&_, cond};
 ghost use Prim.Native.Nat.{suc, _-_, _≤_, _<_};
 ghost use lib.Dec.{T};
 ghost use lib.ListN.{length, getD, take};
@@ -19,8 +19,8 @@ ghost use Rattle.calculus.specs.Trails.{onTrail, atomOnTrail, isLiteral, isAtom
 ghost use Rattle.calculus.specs.Trails as trails;
 ghost use Rattle.calculus.specs.Rules.{otherInstances, backLevel, propagatedTrail, withoutLast};
 ghost use Rattle.clauses.specs.Records.{clauseOf, instancedOf};
-ghost use Rattle.trail.specs.Entries.{noEntry, entryOf, packedEntry, trailOf, packedTrail, Stored, Held};
-ghost use Rattle.trail.specs.Answers.{passes, firstNumber, packedInstances, Grew, isBackground, Testable};
+ghost use Rattle.trail.specs.Entries.{noEntry, entryOf, trailOf, packedTrail, Stored, Held, Recorded};
+ghost use Rattle.trail.specs.Answers.{Counts, isAbout, passes, firstNumber, Listed, Grew, isBackground, Gathers, Testable};
 use basis::Atom;
 use basis::Literal;
 use clauses::Clause;
@@ -146,7 +146,7 @@ pub fn is_decision(e: Entry) -> bool
 
 // Whether the entry is the literal or its complement
 fn is_about(e: Entry, l: Literal) -> bool
-    ensures { λ r. ⌜ r ≡ (isLiteral l (entryOf e) || isLiteral (calculus.complement l) (entryOf e)) ⌝ }
+    ensures { λ r. ⌜ r ≡ isAbout l (entryOf e) ⌝ }
 {
     if is_literal(e, l) {
         return true;
@@ -210,7 +210,7 @@ pub fn undefined(trail: [Entry; 160], length: u8, l: Literal) -> bool
 
 // How many literals the record counts, and no more than it has room for
 fn literals_of(c: Clause) -> usize
-    ensures { λ r. ⌜ (length (c .literals) ≡ mostLiterals) × (r ≤ mostLiterals) × (take r (c .literals) ≡ clauseOf c .literals) ⌝ }
+    ensures { λ r. ⌜ Counts (c .literals) mostLiterals (c .literalcount) r ⌝ }
 {
     if c.literalcount < 8 {
         return c.literalcount as usize;
@@ -220,7 +220,7 @@ fn literals_of(c: Clause) -> usize
 
 // How many atoms the record counts, and no more than it has room for
 fn atoms_of(c: Clause) -> usize
-    ensures { λ r. ⌜ (length (c .atoms) ≡ mostAtoms) × (r ≤ mostAtoms) × (take r (c .atoms) ≡ clauseOf c .atoms) ⌝ }
+    ensures { λ r. ⌜ Counts (c .atoms) mostAtoms (c .atomcount) r ⌝ }
 {
     if c.atomcount < 24 {
         return c.atomcount as usize;
@@ -349,7 +349,7 @@ pub fn level_of(trail: [Entry; 160], length: u8, l: Literal) -> u8
 
 // The instances of the conflict's literals but the one with number l: D
 pub fn other_instances(n: Instanced, l: u8) -> Instances
-    ensures { λ r. ⌜ r ≡ packedInstances (otherInstances (instancedOf n) l) ⌝ }
+    ensures { λ r. ⌜ Listed r (otherInstances (instancedOf n) l) ⌝ }
 {
     let clause = n.clause;
     let instance = n.instance;
@@ -374,16 +374,23 @@ pub fn other_instances(n: Instanced, l: u8) -> Instances
     }
 }
 
+// How many literals they count, and no more than there is room for
+fn instances_of(d: Instances) -> usize
+    ensures { λ r. ⌜ Counts (d .at) mostLiterals (d .count) r ⌝ }
+{
+    if d.count < 8 {
+        return d.count as usize;
+    }
+    8
+}
+
 // Whether the entry is one of the ground literals or the complement of one
 fn is_about_any(e: Entry, d: Instances) -> bool
-    ensures { λ r. ⌜ r ≡ anyOf (λ l. isLiteral l (entryOf e) || isLiteral (calculus.complement l) (entryOf e)) (take (d .count) (d .at)) ⌝ }
+    ensures { λ r. ⌜ r ≡ anyOf (λ l. isAbout l (entryOf e)) (take (d .count) (d .at)) ⌝ }
 {
-    let n = d.count as usize;
+    let n = instances_of(d);
     let mut j = 0;
     while j < n {
-        if 8 <= j {
-            return false;
-        }
         let l = d.at[j];
         if is_about(e, l) {
             return true;
@@ -486,11 +493,21 @@ pub fn cut(trail: [Entry; 160], length: u8, level: u8) -> Part
 
 // ---- entries appended
 
+// How many constants an instance counts, and no more than there is room for
+fn constants_of(instance: [u8; 12], count: u8) -> usize
+    ensures { λ r. ⌜ Counts instance mostVariables count r ⌝ }
+{
+    if count < 12 {
+        return count as usize;
+    }
+    12
+}
+
 // The first `count` constants of an instance, blank from there on
 fn first_constants(instance: [u8; 12], count: u8) -> [u8; 12]
     ensures { λ r. ⌜ r ≡ exactly mostVariables 0 (take count instance) ⌝ }
 {
-    let n = count as usize;
+    let n = constants_of(instance, count);
     let mut out = instance;
     let mut k = 12;
     while n < k {
@@ -500,18 +517,8 @@ fn first_constants(instance: [u8; 12], count: u8) -> [u8; 12]
     out
 }
 
-// How many they are
-fn constants_of(instance: [u8; 12], count: u8) -> u8
-    ensures { λ r. ⌜ r ≡ length (take count instance) ⌝ }
-{
-    if count < 12 {
-        return count;
-    }
-    12
-}
-
 fn background_entry(a: Atom) -> Entry
-    ensures { λ r. ⌜ r ≡ packedEntry (background a) ⌝ }
+    ensures { λ r. ⌜ Recorded r (background a) ⌝ }
 {
     let literal = no_literal();
     let instance = [0u8; 12];
@@ -529,7 +536,7 @@ fn background_entry(a: Atom) -> Entry
 }
 
 fn propagated_entry(l: Literal, clause: u8, number: u8, instance: [u8; 12], count: u8) -> Entry
-    ensures { λ r. ⌜ r ≡ packedEntry (foreground l (propagated clause number (take count instance))) ⌝ }
+    ensures { λ r. ⌜ Recorded r (foreground l (propagated clause number (take count instance))) ⌝ }
 {
     let atom = no_atom();
     let constants = first_constants(instance, count);
@@ -542,7 +549,7 @@ fn propagated_entry(l: Literal, clause: u8, number: u8, instance: [u8; 12], coun
         clause: clause,
         number: number,
         sign: false,
-        count: n,
+        count: n as u8,
         instance: constants,
     }
 }
@@ -555,7 +562,7 @@ fn decided_entry(
     instance: [u8; 12],
     count: u8,
 ) -> Entry
-    ensures { λ r. ⌜ r ≡ packedEntry (foreground l (decided clause number sign (take count instance))) ⌝ }
+    ensures { λ r. ⌜ Recorded r (foreground l (decided clause number sign (take count instance))) ⌝ }
 {
     let atom = no_atom();
     let constants = first_constants(instance, count);
@@ -568,7 +575,7 @@ fn decided_entry(
         clause: clause,
         number: number,
         sign: sign,
-        count: n,
+        count: n as u8,
         instance: constants,
     }
 }
@@ -677,7 +684,7 @@ fn is_background(e: Entry) -> bool
 // The atoms of the trail, that of the last entry first
 fn trail_atoms(trail: [Entry; 160], length: u8) -> Tested
     requires { ⌜ length ≤ mostEntries ⌝ }
-    ensures { λ r. ⌜ (r .count ≤ mostEntries) × (take (r .count) (r .atoms) ≡ atomsOf (trailOf trail length)) ⌝ }
+    ensures { λ r. ⌜ Gathers r mostEntries (atomsOf (trailOf trail length)) ⌝ }
 {
     let blank = no_atom();
     let mut atoms = [blank; 184];
@@ -701,7 +708,7 @@ fn trail_atoms(trail: [Entry; 160], length: u8) -> Tested
 // .. and then those of the clause's instance
 fn with_atoms(tested: Tested, clause: Clause, instance: [u8; 12], count: u8) -> Tested
     requires { ⌜ tested .count ≤ mostEntries ⌝ }
-    ensures { λ r. ⌜ (r .count ≤ mostTested) × (take (r .count) (r .atoms) ≡ take (tested .count) (tested .atoms) ++ groundAtoms (take count instance) (clauseOf clause .atoms)) ⌝ }
+    ensures { λ r. ⌜ Gathers r mostTested (take (tested .count) (tested .atoms) ++ groundAtoms (take count instance) (clauseOf clause .atoms)) ⌝ }
 {
     let n = atoms_of(clause);
     let mut atoms = tested.atoms;
