@@ -1,9 +1,12 @@
 // Clause records, their blanks, equality of atoms and literals, complements and ground instances.
 // Slots past a count are blank in every record that is made here or above, so that equal clauses are equal values.
 ghost use mathlib.Core.Path.{_≡_};
+ghost use mathlib.Core.Bool.{_||_};
+ghost use lib.Dec.{eqb};
 ghost use lib.ListN.{take};
 ghost use Rattle.basis.specs.Atoms.{noAtom};
-ghost use Rattle.calculus.specs.Clauses.{noLiteral, noClause, noInstanced, sameAtom, sameLiteral, renameAtom, under};
+ghost use Rattle.lists.specs.Lists.{anyOf};
+ghost use Rattle.calculus.specs.Clauses.{arguments, noLiteral, noClause, noInstanced, sameAtom, sameLiteral, renameAtom, under};
 ghost use Rattle.calculus.specs.Clauses as calculus;
 ghost use Rattle.clauses.specs.Records.{packed, packedInstanced};
 ghost use Rattle.clauses.specs.Records as records;
@@ -111,6 +114,32 @@ pub fn same_literal(a: Literal, b: Literal) -> bool
         return false;
     }
     true
+}
+
+// Whether variable x stands in the atom
+pub fn in_atom(a: Atom, x: u8) -> bool
+    ensures { λ r. ⌜ r ≡ (eqb x (a .p) || eqb x (a .q)) ⌝ }
+{
+    if x == a.p {
+        return true;
+    }
+    x == a.q
+}
+
+// Whether variable x is an argument of the literal
+pub fn in_literal(l: Literal, x: u8) -> bool
+    ensures { λ r. ⌜ r ≡ anyOf (eqb x) (arguments l) ⌝ }
+{
+    if x == l.x {
+        return true;
+    }
+    if x == l.y {
+        return true;
+    }
+    if x == l.z {
+        return true;
+    }
+    false
 }
 
 pub fn complement(l: Literal) -> Literal

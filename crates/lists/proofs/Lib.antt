@@ -2,5 +2,5 @@
 pub mod Tests
 pub mod Members
 pub mod Counting
-pub mod Arrays
 pub mod Walks
+pub mod Arrays

@@ -68,14 +68,6 @@ module _ {A B : Type 0} (f : A → B) where
   pub mapped-short : (l : List A) (j : ℕ) → length (map f (take j l)) ≤ j
   mapped-short l j = omega (arith, length-map (take j l) f, length-take j l)
 
-  -- Stored into an array slot by slot
-  pub mapped-turn : (n : ℕ) (d : B) (e : A) (l : List A) (j : ℕ) → j < length l → j < n →
-      set (exactly n d (map f (take j l))) j (f (getD l j e)) ≡ exactly n d (map f (take (j + 1) l))
-  mapped-turn n d e l j h k =
-      let s : length (map f (take j l)) ≡ j = omega (arith, length-map (take j l) f, length-take j l) in
-      ap (λ (i : ℕ). set (exactly n d (map f (take j l))) i (f (getD l j e))) (sym s)
-      ∙ set-exactly d n (map f (take j l)) (f (getD l j e)) (omega arith) ∙ ap (exactly n d) (sym (map-more f l j e h))
-
 pub start-turn : (x : ℕ) → x < 24 → set (exactly 24 0 (upFrom 1 x)) x (x + 1) ≡ exactly 24 0 (upFrom 1 (x + 1))
 start-turn x h =
     let s = upFrom-length 1 x in

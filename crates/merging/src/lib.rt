@@ -1,9 +1,9 @@
 // Merging: the reason of a Propagate, the resolvent and the factored conflict, all by the same steps. Variables are joined in a table of
 // group numbers; atoms and literals are renamed by it, an atom equal to an earlier one going; then numbers close up.
 ghost use mathlib.Core.Path.{_≡_};
-ghost use mathlib.Core.Bool.{Bool, true, false, _||_, _&&_, not, cond};
-ghost use mathlib.Core.List.{List, [], _∷_, _++_, map};
-ghost use Prim.Native.Nat.{ℕ, _+_, _-_, _≤_, _<_, min, max};
+ghost use mathlib.Core.Bool.{_||_, not, cond};
+ghost use mathlib.Core.List.{[], _++_, map};
+ghost use Prim.Native.Nat.{_≤_, min, max};
 ghost use lib.Dec.{eqb};
 ghost use lib.ListN.{length, getD, take};
 ghost use Rattle.lists.specs.Lists.{anyOf, keepIf, upFrom, pairUp, without};
@@ -21,6 +21,8 @@ use clauses::Clause;
 use clauses::Instanced;
 use clauses::counted;
 use clauses::ground;
+use clauses::in_atom;
+use clauses::in_literal;
 use clauses::no_instanced;
 use clauses::no_literal;
 use clauses::same_atom;
@@ -304,30 +306,6 @@ fn append_names(l: Names, a: [u8; 12], u: u8) -> Names
 }
 
 // ---- closing up
-
-fn in_atom(a: Atom, x: u8) -> bool
-    ensures { λ r. ⌜ r ≡ (eqb x (a .p) || eqb x (a .q)) ⌝ }
-{
-    if x == a.p {
-        return true;
-    }
-    x == a.q
-}
-
-fn in_literal(l: Literal, x: u8) -> bool
-    ensures { λ r. ⌜ r ≡ anyOf (eqb x) (arguments l) ⌝ }
-{
-    if x == l.x {
-        return true;
-    }
-    if x == l.y {
-        return true;
-    }
-    if x == l.z {
-        return true;
-    }
-    false
-}
 
 fn in_atoms(l: Atoms, x: u8) -> bool
     requires { ⌜ l .n ≤ 48 ⌝ }
