@@ -16,3 +16,4 @@ pub mod Demands
 pub mod Certificates
 pub mod Examples
 pub mod FalseTools
+pub mod Speed
