@@ -13,6 +13,7 @@ pub mod Class
 pub mod Levels
 pub mod Invariant
 pub mod Demands
+pub mod Merges
 pub mod Certificates
 pub mod Examples
 pub mod FalseTools
