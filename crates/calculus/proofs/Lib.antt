@@ -6,6 +6,7 @@ pub mod Derived
 pub mod OnTrail
 pub mod Cuts
 pub mod Answers
+pub mod Reasons
 pub mod Conditions
 pub mod Admitting
 pub mod Trails
