@@ -21,4 +21,3 @@ firstRefusal (c ∷ cs) = let r = firstRefusal cs in cond (c .ok) r (c .refusal)
 
 abbrev pub between : ℕ → ℕ → ℕ → Bool
 between a b x = leb a x && leb x b
-

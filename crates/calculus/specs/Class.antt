@@ -84,7 +84,7 @@ differencesBounded az = allOf (λ a. eqb (a .p) zero || (eqb (a .q) zero || (bou
 abbrev pub clauseRefusal : List ℕ → Clause → ℕ
 clauseRefusal arities C =
     firstRefusal (
-      withinLimits C or aboveLimit ∷
-      (allOf (properAtom (C .variables)) (C .atoms) && allOf (properLiteral arities (C .variables)) (C .literals)) or outOfRange ∷
-      allOf (occursIn (C .atoms) (C .literals)) (upFrom 1 (C .variables)) or occursNowhere ∷
-      differencesBounded (C .atoms) or lacksBound ∷ [])
+    withinLimits C or aboveLimit ∷
+    (allOf (properAtom (C .variables)) (C .atoms) && allOf (properLiteral arities (C .variables)) (C .literals)) or outOfRange ∷
+    allOf (occursIn (C .atoms) (C .literals)) (upFrom 1 (C .variables)) or occursNowhere ∷
+    differencesBounded (C .atoms) or lacksBound ∷ [])

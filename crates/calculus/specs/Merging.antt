@@ -30,10 +30,10 @@ occursIn az ls x = anyOf (λ a. eqb x (a .p) || eqb x (a .q)) az || anyOf (λ l.
 unfoldable pub closeUp : ℕ → List Atom → List Literal → List ℕ → Instanced
 closeUp v az ls τ =
     let ks = keepIf (occursIn az ls) (upFrom 1 v) in
-    record
-      { clause = record { variables = length ks; atoms = map (renameAtom (λ x. indexOf x (0 ∷ ks))) az; literals = map (renameLiteral (λ x. indexOf x (0 ∷ ks))) ls }
-      ; instance = map (under τ) ks
-      }
+    record {
+      clause = record { variables = length ks; atoms = map (renameAtom (λ x. indexOf x (0 ∷ ks))) az; literals = map (renameLiteral (λ x. indexOf x (0 ∷ ks))) ls };
+      instance = map (under τ) ks;
+    }
 
 -- The atoms and literals over v variables with the pairs of variables merged
 unfoldable pub merge : List (ℕ × ℕ) → ℕ → List Atom → List Literal → List ℕ → Instanced
@@ -80,13 +80,13 @@ unfoldable pub resolvent : Instanced → ℕ → Instanced → ℕ → Instanced
 resolvent N j R i =
     let v = N .clause .variables in
     merge (pairUp (arguments (getD (N .clause .literals) j noLiteral)) (arguments (renameLiteral (apart v) (getD (R .clause .literals) i noLiteral))))
-        (v + R .clause .variables)
-        (N .clause .atoms ++ map (renameAtom (apart v)) (R .clause .atoms))
-        (without j (N .clause .literals) ++ map (renameLiteral (apart v)) (without i (R .clause .literals)))
-        (N .instance ++ R .instance)
+    (v + R .clause .variables)
+    (N .clause .atoms ++ map (renameAtom (apart v)) (R .clause .atoms))
+    (without j (N .clause .literals) ++ map (renameLiteral (apart v)) (without i (R .clause .literals)))
+    (N .instance ++ R .instance)
 
 -- "Their variables are merged; the one with the larger number goes." The two literals are at i and j.
 unfoldable pub factored : Instanced → ℕ → ℕ → Instanced
 factored N i j =
     merge (pairUp (arguments (getD (N .clause .literals) (min i j) noLiteral)) (arguments (getD (N .clause .literals) (max i j) noLiteral)))
-        (N .clause .variables) (N .clause .atoms) (without (max i j) (N .clause .literals)) (N .instance)
+    (N .clause .variables) (N .clause .atoms) (without (max i j) (N .clause .literals)) (N .instance)

@@ -118,15 +118,15 @@ next s Skip = updated s (withoutLast (s .trail)) (levelAfterSkip (s .trail) (s .
 next s (Backtrack l) =
     let N = conflictOf (s .conflict) in
     let i = backLevel N l (s .trail) in
-    record
-      { arities = s .arities
-      ; trail = propagatedTrail (N .clause) (l - 1) (N .instance) (propagated (suc (length (clauses s))) l (N .instance)) (cut i (s .trail))
-      ; input = s .input
-      ; learned = s .learned ++ (N .clause ∷ [])
-      ; constants = s .constants
-      ; level = i
-      ; conflict = none
-      }
+    record {
+      arities = s .arities;
+      trail = propagatedTrail (N .clause) (l - 1) (N .instance) (propagated (suc (length (clauses s))) l (N .instance)) (cut i (s .trail));
+      input = s .input;
+      learned = s .learned ++ (N .clause ∷ []);
+      constants = s .constants;
+      level = i;
+      conflict = none;
+    }
 next s (Grow n) =
     record { arities = s .arities; trail = []; input = s .input; learned = s .learned; constants = s .constants + n; level = zero; conflict = none }
 next s (Unknown r) = s

@@ -2,3 +2,4 @@
 pub mod Lists
 pub mod Walk
 pub mod Tests
+pub mod Arrays

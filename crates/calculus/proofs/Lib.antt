@@ -1,0 +1,20 @@
+-- The laws and proofs behind the calculus's theorems. Nothing here has to be read to believe them.
+pub mod Merged
+pub mod Instances
+pub mod Truths
+pub mod Derived
+pub mod OnTrail
+pub mod Cuts
+pub mod Answers
+pub mod Conditions
+pub mod Admitting
+pub mod Trails
+pub mod Class
+pub mod Levels
+pub mod Invariant
+pub mod Demands
+pub mod Merges
+pub mod Certificates
+pub mod Examples
+pub mod FalseTools
+pub mod Speed

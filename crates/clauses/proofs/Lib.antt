@@ -1,0 +1,2 @@
+-- Laws of the records, and the proofs of the functions.
+pub mod Records

@@ -1,0 +1,13 @@
+-- `clauses::no_clause` meets its contract.
+-- What the search leaves follows from the tests passed and from what the calls ensure.
+use mathlib.Core.Path.{refl}
+use Rattle.lists.specs.Arrays.{exactly}
+use Rattle.clauses.proofs.no_clause.Statement.{statement}
+use Rattle.clauses.proofs.no_clause.Tie as tie
+
+returns : tie.Need-returns
+unfolding exactly
+returns c = refl
+
+pub no-clause-spec : {M : Type 1} → statement M
+no-clause-spec = tie.close (tie.spec returns)

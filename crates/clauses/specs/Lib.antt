@@ -1,0 +1,2 @@
+-- Clause records as the calculus's clauses.
+pub mod Records

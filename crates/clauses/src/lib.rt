@@ -1,0 +1,178 @@
+// Clause records, their blanks, equality of atoms and literals, complements and ground instances.
+// Slots past a count are blank in every record that is made here or above, so that equal clauses are equal values.
+ghost use mathlib.Core.Path.{_≡_};
+ghost use lib.ListN.{take};
+ghost use Rattle.basis.specs.Atoms.{noAtom};
+ghost use Rattle.calculus.specs.Clauses.{noLiteral, noClause, noInstanced, sameAtom, sameLiteral, renameAtom, under};
+ghost use Rattle.calculus.specs.Clauses as calculus;
+ghost use Rattle.clauses.specs.Records.{packed, packedInstanced};
+ghost use Rattle.clauses.specs.Records as records;
+use basis::Atom;
+use basis::Literal;
+
+// "A clause is a record of at most 12 variables, 24 atoms and 8 literals."
+pub struct Clause {
+    pub variables: u8,
+    pub atomcount: u8,
+    pub literalcount: u8,
+    pub atoms: [Atom; 24],
+    pub literals: [Literal; 8],
+}
+
+// A clause with a constant for each of its variables
+pub struct Instanced {
+    pub clause: Clause,
+    pub instance: [u8; 12],
+}
+
+// The blank atom
+pub fn no_atom() -> Atom
+    ensures { λ r. ⌜ r ≡ noAtom ⌝ }
+{
+    Atom { p: 0, q: 0, c: 0 }
+}
+
+// The blank literal
+pub fn no_literal() -> Literal
+    ensures { λ r. ⌜ r ≡ noLiteral ⌝ }
+{
+    Literal {
+        positive: false,
+        predicate: 0,
+        x: 0,
+        y: 0,
+        z: 0,
+    }
+}
+
+// The blank clause
+pub fn no_clause() -> Clause
+    ensures { λ r. ⌜ r ≡ packed noClause ⌝ }
+{
+    let a = Atom { p: 0, q: 0, c: 0 };
+    let l = Literal {
+        positive: false,
+        predicate: 0,
+        x: 0,
+        y: 0,
+        z: 0,
+    };
+    let atoms = [a; 24];
+    let literals = [l; 8];
+    Clause {
+        variables: 0,
+        atomcount: 0,
+        literalcount: 0,
+        atoms: atoms,
+        literals: literals,
+    }
+}
+
+// The blank clause with its instance
+pub fn no_instanced() -> Instanced
+    ensures { λ r. ⌜ r ≡ packedInstanced noInstanced ⌝ }
+{
+    let clause = no_clause();
+    let instance = [0u8; 12];
+    Instanced {
+        clause: clause,
+        instance: instance,
+    }
+}
+
+pub fn same_atom(a: Atom, b: Atom) -> bool
+    ensures { λ r. ⌜ r ≡ sameAtom a b ⌝ }
+{
+    if a.p != b.p {
+        return false;
+    }
+    if a.q != b.q {
+        return false;
+    }
+    a.c == b.c
+}
+
+pub fn same_literal(a: Literal, b: Literal) -> bool
+    ensures { λ r. ⌜ r ≡ sameLiteral a b ⌝ }
+{
+    if a.positive != b.positive {
+        return false;
+    }
+    if a.predicate != b.predicate {
+        return false;
+    }
+    if a.x != b.x {
+        return false;
+    }
+    if a.y != b.y {
+        return false;
+    }
+    if a.z != b.z {
+        return false;
+    }
+    true
+}
+
+pub fn complement(l: Literal) -> Literal
+    ensures { λ r. ⌜ r ≡ calculus.complement l ⌝ }
+{
+    let mut r = l;
+    r.positive = !l.positive;
+    r
+}
+
+// The constant that the first n of an instance have for variable x; 0 for place 0, and past them
+pub fn constant_of(instance: [u8; 12], n: u8, x: u8) -> u8
+    ensures { λ r. ⌜ r ≡ under (take n instance) x ⌝ }
+{
+    if x == 0 {
+        return 0;
+    }
+    if n < x {
+        return 0;
+    }
+    let k = x as usize - 1;
+    if k < 12 {
+        return instance[k];
+    }
+    0
+}
+
+// A literal's instance under the first n constants
+pub fn ground(l: Literal, instance: [u8; 12], n: u8) -> Literal
+    ensures { λ r. ⌜ r ≡ calculus.ground (take n instance) l ⌝ }
+{
+    let x = constant_of(instance, n, l.x);
+    let y = constant_of(instance, n, l.y);
+    let z = constant_of(instance, n, l.z);
+    let mut r = l;
+    r.x = x;
+    r.y = y;
+    r.z = z;
+    r
+}
+
+// An atom's instance under the first n constants
+pub fn ground_atom(a: Atom, instance: [u8; 12], n: u8) -> Atom
+    ensures { λ r. ⌜ r ≡ renameAtom (under (take n instance)) a ⌝ }
+{
+    let p = constant_of(instance, n, a.p);
+    let q = constant_of(instance, n, a.q);
+    let mut r = a;
+    r.p = p;
+    r.q = q;
+    r
+}
+
+// Whether a record's counts are within the limits
+pub fn counted(c: Clause) -> bool
+    ensures { λ r. ⌜ r ≡ records.counted c ⌝ }
+{
+    if 12 < c.variables {
+        return false;
+    }
+    if 24 < c.atomcount {
+        return false;
+    }
+    c.literalcount <= 8
+}

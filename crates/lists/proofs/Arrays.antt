@@ -1,0 +1,82 @@
+-- Laws of a list held in an array, and of an array changed slot by slot.
+use mathlib.Core.Path.{_≡_, refl, _∙_, ap, ap₂}
+use mathlib.Core.List.{List, [], _∷_, _++_, map}
+use Prim.Native.Nat.{ℕ, zero, suc, _+_, _≤_, _<_}
+use native.Mathlib.Omega.{arith}
+use native.Mathlib.Numerals.{add-one}
+use lib.ListN.{length, getD, set, take, drop, replicate, List·getD-eq-default}
+use Rattle.lists.specs.Arrays.{exactly}
+
+module _ {A : Type 0} (d : A) where
+  pub exactly-length : (n : ℕ) (l : List A) → length (exactly n d l) ≡ n
+  unfolding exactly
+  exactly-length zero l = refl
+  exactly-length (suc n) [] = ap suc (exactly-length n [])
+  exactly-length (suc n) (x ∷ l) = ap suc (exactly-length n l)
+
+  pub exactly-none : (n : ℕ) → exactly n d [] ≡ replicate n d
+  unfolding exactly
+  exactly-none zero = refl
+  exactly-none (suc n) = ap {B = List A} (λ r. d ∷ r) (exactly-none n)
+
+  -- As many as there are: no blanks
+  pub exactly-take : (n : ℕ) (l : List A) → n ≤ length l → exactly n d l ≡ take n l
+  unfolding exactly
+  exactly-take zero l h = refl
+  exactly-take (suc n) [] h = absurd (omega arith)
+  exactly-take (suc n) (x ∷ l) h = ap {B = List A} (λ r. x ∷ r) (exactly-take n l (omega arith))
+
+  -- The list is what stands before the blanks.
+  pub take-exactly : (n : ℕ) (l : List A) → length l ≤ n → take (length l) (exactly n d l) ≡ l
+  unfolding exactly
+  take-exactly zero [] h = refl
+  take-exactly (suc n) [] h = refl
+  take-exactly zero (x ∷ l) h = absurd (omega arith)
+  take-exactly (suc n) (x ∷ l) h = ap {B = List A} (λ r. x ∷ r) (take-exactly n l (omega arith))
+
+  -- An element put into the first blank slot
+  pub set-exactly : (n : ℕ) (l : List A) (x : A) → length l < n → set (exactly n d l) (length l) x ≡ exactly n d (l ++ (x ∷ []))
+  unfolding exactly
+  set-exactly zero l x h = absurd (omega arith)
+  set-exactly (suc n) [] x h = refl
+  set-exactly (suc n) (y ∷ l) x h = ap {B = List A} (λ r. y ∷ r) (set-exactly n l x (omega arith))
+
+  pub getD-exactly : (n : ℕ) (l : List A) (i : ℕ) → i < n → getD (exactly n d l) i d ≡ getD l i d
+  unfolding exactly
+  getD-exactly zero l i h = absurd (omega arith)
+  getD-exactly (suc n) [] zero h = refl
+  getD-exactly (suc n) [] (suc i) h = getD-exactly n [] i (omega arith)
+  getD-exactly (suc n) (x ∷ l) zero h = refl
+  getD-exactly (suc n) (x ∷ l) (suc i) h = getD-exactly n l i (omega arith)
+
+  -- Of a list that the array has room for, every read is the list's, past its end too.
+  pub getD-held : (n : ℕ) (l : List A) (i : ℕ) → length l ≤ n → getD (exactly n d l) i d ≡ getD l i d
+  unfolding exactly
+  getD-held zero [] i h = refl
+  getD-held zero (x ∷ l) i h = absurd (omega arith)
+  getD-held (suc n) [] zero h = refl
+  getD-held (suc n) [] (suc i) h = getD-held n [] i (omega arith)
+  getD-held (suc n) (x ∷ l) zero h = refl
+  getD-held (suc n) (x ∷ l) (suc i) h = getD-held n l i (omega arith)
+
+  pub map-exactly : {B : Type 0} (f : A → B) (n : ℕ) (l : List A) → map f (exactly n d l) ≡ exactly n (f d) (map f l)
+  unfolding exactly
+  map-exactly f zero l = refl
+  map-exactly {B} f (suc n) [] = ap {B = List B} (λ r. f d ∷ r) (map-exactly f n [])
+  map-exactly {B} f (suc n) (x ∷ l) = ap {B = List B} (λ r. f x ∷ r) (map-exactly f n l)
+
+-- An array changed slot by slot
+module _ {A : Type 0} (f : A → A) where
+  turn : (t : List A) (j : ℕ) (d : A) → j < length t → set (map f (take j t) ++ drop j t) j (f (getD t j d)) ≡ map f (take (suc j) t) ++ drop (suc j) t
+  turn (x ∷ t) zero d h = refl
+  turn (x ∷ t) (suc j) d h = ap (λ r. f x ∷ r) (turn t j d (omega arith))
+  turn [] j d h = absurd (omega arith)
+
+  pub each-turn : (t : List A) (j : ℕ) (d : A) → j < length t → set (map f (take j t) ++ drop j t) j (f (getD t j d)) ≡ map f (take (j + 1) t) ++ drop (j + 1) t
+  each-turn t j d h = rw add-one (turn t j d h)
+
+  pub each-done : (t : List A) (j : ℕ) → length t ≤ j → map f (take j t) ++ drop j t ≡ map f t
+  each-done [] zero h = refl
+  each-done [] (suc j) h = refl
+  each-done (x ∷ t) zero h = absurd (omega arith)
+  each-done (x ∷ t) (suc j) h = ap (λ r. f x ∷ r) (each-done t j (omega arith))
