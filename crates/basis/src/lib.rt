@@ -1,3 +1,14 @@
+// The limits and refusal numbers that code needs, each under the name that it has in specs/Limits.antt and specs/Refusals.antt.
+pub const MOST_CONSTANTS: usize = 16;
+
+pub const MOST_TESTED: usize = 184;
+
+pub const MOST_C: i32 = 1000000;
+
+pub const ABOVE_LIMIT: u8 = 3;
+
+pub const OUT_OF_RANGE: u8 = 4;
+
 // The atom record: a background atom p - q at most c, over places (a variable or a constant by its number; 0 is the number zero).
 pub struct Atom {
     pub p: u8,

@@ -3,13 +3,13 @@ use mathlib.Core.Path.{_∙_, _≡_, ap, refl, subst, sym}
 use mathlib.Core.Logic.{_⊎_, inl, inr}
 use mathlib.Core.List.{List, List·Memᴰ, List·Memᴰ·cases-cons, List·Memᴰ·head, List·Memᴰ·not-nil, List·Memᴰ·tail, [], _∷_, map}
 use mathlib.Core.Bool.{Bool·beq, _&&_, cond, not}
-use Prim.Native.Nat.{max, min, suc, zero, ℕ}
+use Prim.Native.Nat.{_≤_, max, min, suc, zero, ℕ}
 use native.Mathlib.Omega.{arith}
 use lib.Dec.{T, T-not, eqb, eqb-refl, eqb→eq}
-use lib.ListN.{List·getD-map, getD}
+use lib.ListN.{List·getD-map, getD, length}
 use Rattle.basis.specs.declared.Atom.{Atom}
 use Rattle.basis.specs.declared.Literal.{Literal}
-use Rattle.lists.proofs.Members.{keepIf-in, keepIf-out}
+use Rattle.lists.proofs.Members.{keepIf-in, keepIf-out, keepIf-short}
 use Rattle.lists.proofs.Tests.{F→eq, Said, T→eq, and-i, and-l, and-r, beq-refl, beq→eq, fails, holds, said, sameList-refl, sameList→eq, sameWhole-refl, sameWhole→eq}
 use Rattle.lists.specs.Lists.{keepIf, sameList, sameWhole}
 use Rattle.calculus.specs.Clauses.{arguments, renameLiteral, sameAtom, sameLiteral, under}
@@ -115,3 +115,7 @@ joins-meet (p ∷ es) σ x y m = go (λ h. joins-meet es (join (p .0) (p .1) σ)
     go : (List·Memᴰ (x, y) es → under (joins (p ∷ es) σ) x ≡ under (joins (p ∷ es) σ) y) → _≡_ {A = ℕ × ℕ} (x, y) p ⊎ List·Memᴰ (x, y) es → under (joins (p ∷ es) σ) x ≡ under (joins (p ∷ es) σ) y
     go ih (inl e) = subst (λ (r : ℕ × ℕ). under (joins (p ∷ es) σ) (r .0) ≡ under (joins (p ∷ es) σ) (r .1)) (sym e) (joins-keep es (join (p .0) (p .1) σ) (p .0) (p .1) (join-meets (p .0) (p .1) σ))
     go ih (inr h) = ih h
+
+pub distinct-short : (az : List Atom) → length (distinct az) ≤ length az
+distinct-short [] = omega arith
+distinct-short (a ∷ az) = omega (arith, keepIf-short (λ b. not (sameAtom a b)) (distinct az), distinct-short az)

@@ -1,2 +1,3 @@
--- The constraint test: what each of its answers says.
+-- The constraint test: what each of its answers says (Test), and what its private functions work on (Square).
 pub mod Test
+pub mod Square

@@ -1,8 +1,223 @@
+ghost use mathlib.Core.Path.{_≡_};
+ghost use Prim.Native.Nat.{ℕ, _<_, _≤_};
+ghost use lib.ListN.{take};
+ghost use lib.IntN.{pos, _+ℤ_};
+ghost use lib.Signed.{ltZ};
+ghost use Rattle.basis.specs.Numbers.{whole};
+ghost use Rattle.basis.specs.Limits.{mostConstants, mostTested};
+ghost use Rattle.basis.specs.Atoms.{InRange, Proper, Possible};
+ghost use Rattle.lists.specs.Tests.{Decides};
+ghost use Rattle.integers.specs.Sides.{Within};
+ghost use Rattle.bounds.specs.Whole.{wholeBounds};
+ghost use Rattle.bounds.specs.Squares.{lower, put};
+ghost use Rattle.constraint.specs.Test.{Accepted, Says};
+ghost use Rattle.constraint.specs.Square.{places, mostBound, far, mostChain, at, entry, Sound, Stands, Near, Ordered, FirstImproper};
+use basis::ABOVE_LIMIT;
 use basis::Atom;
+use basis::MOST_C;
+use basis::MOST_CONSTANTS;
+use basis::MOST_TESTED;
+use basis::OUT_OF_RANGE;
+
+// The places of the square: zero and the constants.
+const PLACES: usize = 17;
+
+// The bound that stands in place of none: 17 times the largest bound, so that it takes no values away.
+const FAR: i64 = 17000017;
 
 // The answer of the constraint test.
 pub enum Answer {
     Yes,
     No,
     Refused { number: u8, place: u8 },
+}
+
+// The lower of `old` and the bound that goes by `start` and then by `on`.
+fn lowered(start: i64, on: i64, old: i64) -> i64
+    requires { ⌜ Within mostChain start × Within far on ⌝ }
+    ensures { λ r. ⌜ r ≡ lower wholeBounds (start +ℤ on) old ⌝ }
+{
+    let new = start + on;
+    if new < old { new } else { old }
+}
+
+// Each bound of the row lowered to the one that goes by `start` and then by the row `via`.
+fn lowered_row(row: [i64; PLACES], via: [i64; PLACES], start: i64) -> [i64; PLACES]
+    requires { ⌜ ((j : ℕ) → j < places → Within far (at via j)) × Within mostChain start ⌝ }
+    ensures { λ r. ⌜ ((j : ℕ) → j < places → at r j ≡ lower wholeBounds (start +ℤ at via j) (at row j)) ⌝ }
+{
+    let mut out = row;
+    let mut j = 0;
+    while j < PLACES {
+        let on = via[j];
+        let old = out[j];
+        out[j] = lowered(start, on, old);
+        j += 1;
+    }
+    out
+}
+
+// The square with value p - value q at most c put in. A row to which nothing lower comes at q stays as it is.
+fn put_bound(mut t: [[i64; PLACES]; PLACES], p: usize, q: usize, c: i64) -> [[i64; PLACES]; PLACES]
+    requires { ⌜ (p < places) × (q < places) × Within mostBound c × Sound t ⌝ }
+    ensures { λ r. ⌜ ((i j : ℕ) → i < places → j < places → entry r i j ≡ put wholeBounds (entry t) p q c i j) ⌝ }
+{
+    let via = t[q];
+    let mut i = 0;
+    while i < PLACES {
+        let start = t[i][p] + c;
+        if start < t[i][q] {
+            let row = t[i];
+            t[i] = lowered_row(row, via, start);
+        }
+        i += 1;
+    }
+    t
+}
+
+// The square of no order and no atoms: no two values further apart than FAR.
+fn bare_square() -> [[i64; PLACES]; PLACES]
+    ensures { λ r. ⌜ Stands Near r ⌝ }
+{
+    let mut t = [[FAR; PLACES]; PLACES];
+    let mut i = 0;
+    while i < PLACES {
+        t[i][i] = 0;
+        i += 1;
+    }
+    t
+}
+
+// The square of the constants' order.
+fn ordered(constants: usize) -> [[i64; PLACES]; PLACES]
+    requires { ⌜ constants ≤ mostConstants ⌝ }
+    ensures { λ r. ⌜ Stands (Ordered constants) r ⌝ }
+{
+    let mut t = bare_square();
+    let mut i = 1;
+    while i < constants {
+        let next = put_bound(t, i, i + 1, -1);
+        t = next;
+        i += 1;
+    }
+    t
+}
+
+// The same number in 64 bits.
+fn widen(c: i32) -> i64
+    ensures { λ r. ⌜ r ≡ c ⌝ }
+{
+    c as i64
+}
+
+// Whether c closes a chain below zero, `back` being the bound the other way.
+fn below_zero(c: i64, back: i64) -> bool
+    requires { ⌜ Within mostBound c × Within far back ⌝ }
+    ensures { λ r. ⌜ r ≡ ltZ (c +ℤ back) (pos 0) ⌝ }
+{
+    c + back < 0
+}
+
+// Whether the order and the first `count` atoms can be kept.
+fn kept(constants: usize, count: usize, atoms: [Atom; MOST_TESTED]) -> bool
+    requires { ⌜ Accepted constants count atoms ⌝ }
+    ensures { λ r. ⌜ Decides (Possible whole constants (take count atoms)) r ⌝ }
+{
+    let mut t = ordered(constants);
+    let mut k = 0;
+    while k < count {
+        let a = atoms[k];
+        let p = a.p as usize;
+        let q = a.q as usize;
+        let c = widen(a.c);
+        let back = t[q][p];
+        if below_zero(c, back) {
+            return false;
+        }
+        if c < t[p][q] {
+            let tighter = put_bound(t, p, q, c);
+            t = tighter;
+        }
+        k += 1;
+    }
+    true
+}
+
+// Whether c is from -1,000,000 to 1,000,000.
+fn in_range(c: i32) -> bool
+    ensures { λ r. ⌜ Decides (InRange c) r ⌝ }
+{
+    if c < -MOST_C {
+        return false;
+    }
+    if MOST_C < c {
+        return false;
+    }
+    true
+}
+
+// Whether the atom has its places among the constants, not both 0, and c in range.
+fn proper(constants: usize, a: Atom) -> bool
+    ensures { λ r. ⌜ Decides (Proper constants a) r ⌝ }
+{
+    let p = a.p as usize;
+    let q = a.q as usize;
+    if constants < p {
+        return false;
+    }
+    if constants < q {
+        return false;
+    }
+    if p + q == 0 {
+        return false;
+    }
+    in_range(a.c)
+}
+
+// The number of the first atom that is not proper, from 1; or 0.
+fn first_improper(constants: usize, count: usize, atoms: [Atom; MOST_TESTED]) -> usize
+    requires { ⌜ count ≤ mostTested ⌝ }
+    ensures { λ r. ⌜ FirstImproper constants count atoms r ⌝ }
+{
+    let mut k = 0;
+    while k < count {
+        let a = atoms[k];
+        if !proper(constants, a) {
+            return k + 1;
+        }
+        k += 1;
+    }
+    0
+}
+
+// The constraint test: whether whole numbers exist for the constants that keep their order and make the first `count` atoms true.
+pub fn possible(constants: u8, count: u8, atoms: [Atom; MOST_TESTED]) -> Answer
+    ensures { λ r. ⌜ Says constants count atoms r ⌝ }
+{
+    let n = constants as usize;
+    let m = count as usize;
+    if MOST_CONSTANTS < n {
+        return Answer::Refused {
+            number: ABOVE_LIMIT,
+            place: 0,
+        };
+    }
+    if MOST_TESTED < m {
+        return Answer::Refused {
+            number: ABOVE_LIMIT,
+            place: 0,
+        };
+    }
+    let bad = first_improper(n, m, atoms);
+    if 0 < bad {
+        return Answer::Refused {
+            number: OUT_OF_RANGE,
+            place: bad as u8,
+        };
+    }
+    if kept(n, m, atoms) {
+        Answer::Yes
+    } else {
+        Answer::No
+    }
 }

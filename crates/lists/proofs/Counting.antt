@@ -1,15 +1,15 @@
 -- Numbers that count up, and where an element stands in a list.
-use mathlib.Core.Path.{_≡_, refl, sym, _∙_, ap, ap₂, subst}
+use mathlib.Core.Path.{_≡_, ap, refl, sym}
 use mathlib.Core.Logic.{_⊎_, inl, inr}
-use mathlib.Core.List.{List, [], _∷_, map, List·Memᴰ, List·Memᴰ·head, List·Memᴰ·tail, List·Memᴰ·cases-cons, List·Memᴰ·not-nil}
-use mathlib.Core.Bool.{Bool, true, false, _||_, cond}
-use Prim.Native.Nat.{ℕ, zero, suc, _+_, _≤_, _<_}
+use mathlib.Core.List.{List, List·Memᴰ, List·Memᴰ·cases-cons, List·Memᴰ·head, List·Memᴰ·not-nil, List·Memᴰ·tail, [], _∷_, map}
+use mathlib.Core.Bool.{Bool, cond, false, true}
+use Prim.Native.Nat.{_+_, _<_, _≤_, suc, zero, ℕ}
 use native.Mathlib.Omega.{arith}
-use lib.Dec.{T, eqb, eqb→eq, eqb-refl}
-use lib.ListN.{length, getD}
-use Rattle.lists.specs.Lists.{upFrom, indexOf, keepIf}
-use Rattle.lists.proofs.Tests.{Said, holds, fails, said, T→eq, F→eq, not-eqb}
+use lib.Dec.{eqb, eqb-refl, eqb→eq}
+use lib.ListN.{getD, length}
 use Rattle.lists.proofs.Members.{getD-mem, keepIf-out}
+use Rattle.lists.proofs.Tests.{F→eq, Said, T→eq, fails, holds, not-eqb, said}
+use Rattle.lists.specs.Lists.{indexOf, keepIf, upFrom}
 
 pub upFrom-get : (a n x : ℕ) → x < n → getD (upFrom a n) x zero ≡ a + x
 upFrom-get a zero x h = absurd (omega arith)
@@ -70,3 +70,7 @@ indexOf-keepIf f a (suc n) j h = go (λ j h. indexOf-keepIf f (suc a) n j h) (f 
     go ih false j h = ih j h
     go ih true zero h = rw (T→eq (eqb a a) (eqb-refl a)) refl
     go ih true (suc j) h = let lt : j < length R = omega arith in miss (getD R j zero) j (far j lt) (said (eqb (getD R j zero) a)) (ih j lt)
+
+pub upFrom-length : (a n : ℕ) → length (upFrom a n) ≡ n
+upFrom-length a zero = refl
+upFrom-length a (suc n) = ap suc (upFrom-length (suc a) n)

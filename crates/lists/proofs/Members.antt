@@ -1,14 +1,14 @@
 -- What is a member of the lists that the definitions make, and what a test over a list says of its members.
-use mathlib.Core.Path.{_≡_, refl, sym, _∙_, ap, ap₂, subst}
-use mathlib.Core.Logic.{_⊎_, inl, inr}
-use mathlib.Core.List.{List, [], _∷_, map, List·Memᴰ, List·Memᴰ·head, List·Memᴰ·tail, List·Memᴰ·cases-cons, List·Memᴰ·not-nil}
-use mathlib.Core.Bool.{Bool, true, false, _||_, cond}
-use Prim.Native.Nat.{ℕ, zero, suc, _+_, _≤_, _<_}
+use mathlib.Core.Path.{_∙_, _≡_, ap, ap₂, refl, subst, sym}
+use mathlib.Core.Logic.{_⊎_, inl, inr, ⊎-elim}
+use mathlib.Core.List.{List, List·Memᴰ, List·Memᴰ·cases-cons, List·Memᴰ·head, List·Memᴰ·not-nil, List·Memᴰ·tail, [], _∷_, map}
+use mathlib.Core.Bool.{Bool, _||_, cond, false, true}
+use Prim.Native.Nat.{_<_, _≤_, suc, zero, ℕ}
 use native.Mathlib.Omega.{arith}
-use lib.Dec.{T, eqb, eqb→eq, eqb-refl}
-use lib.ListN.{length, getD}
-use Rattle.lists.specs.Lists.{keepIf, anyOf, allOf, without, pairUp}
-use Rattle.lists.proofs.Tests.{and-l, and-r, and-i}
+use lib.Dec.{T}
+use lib.ListN.{drop, getD, length, take}
+use Rattle.lists.proofs.Tests.{and-i, and-l, and-r}
+use Rattle.lists.specs.Lists.{allOf, anyOf, keepIf, pairUp, without}
 
 module _ {A : Type 0} where
   pub keepIf-in : (p : A → Bool) {a : A} (l : List A) → List·Memᴰ a l → T (p a) → List·Memᴰ a (keepIf p l)
@@ -139,3 +139,60 @@ pairUp-mem (a ∷ xs) (b ∷ ys) x y m = go (λ h. pairUp-mem xs ys x y h) (List
     go : (List·Memᴰ (x, y) (pairUp xs ys) → List·Memᴰ x xs × List·Memᴰ y ys) → _≡_ {A = ℕ × ℕ} (x, y) (a, b) ⊎ List·Memᴰ (x, y) (pairUp xs ys) → List·Memᴰ x (a ∷ xs) × List·Memᴰ y (b ∷ ys)
     go ih (inl e) = (List·Memᴰ·head (ap (λ r. r .0) e), List·Memᴰ·head (ap (λ r. r .1) e))
     go ih (inr h) = let r = ih h in (List·Memᴰ·tail (r .0), List·Memᴰ·tail (r .1))
+
+-- ---- parts and lengths
+
+pub map-take : {A B : Type 0} (f : A → B) (n : ℕ) (l : List A) → map f (take n l) ≡ take n (map f l)
+map-take f zero l = refl
+map-take f (suc n) [] = refl
+map-take {B} f (suc n) (x ∷ l) = ap {B = List B} (λ r. f x ∷ r) (map-take f n l)
+
+pub map-drop : {A B : Type 0} (f : A → B) (n : ℕ) (l : List A) → map f (drop n l) ≡ drop n (map f l)
+map-drop f zero l = refl
+map-drop f (suc n) [] = refl
+map-drop f (suc n) (x ∷ l) = map-drop f n l
+
+-- A pair of elements stands in the first n places or past them.
+pub pairUp-parts : (n : ℕ) (xs ys : List ℕ) {p : ℕ × ℕ} → List·Memᴰ p (pairUp xs ys) → List·Memᴰ p (pairUp (take n xs) (take n ys)) ⊎ List·Memᴰ p (pairUp (drop n xs) (drop n ys))
+pairUp-parts zero xs ys m = inr m
+pairUp-parts (suc n) [] ys m = absurd (List·Memᴰ·not-nil m)
+pairUp-parts (suc n) (x ∷ xs) [] m = absurd (List·Memᴰ·not-nil m)
+pairUp-parts (suc n) (x ∷ xs) (y ∷ ys) {p} m = go (λ h. pairUp-parts n xs ys h) (List·Memᴰ·cases-cons m)
+  where
+    step : List·Memᴰ p (pairUp (take n xs) (take n ys)) ⊎ List·Memᴰ p (pairUp (drop n xs) (drop n ys)) → List·Memᴰ p ((x, y) ∷ pairUp (take n xs) (take n ys)) ⊎ List·Memᴰ p (pairUp (drop n xs) (drop n ys))
+    step (inl h) = inl (List·Memᴰ·tail h)
+    step (inr h) = inr h
+
+    go : (List·Memᴰ p (pairUp xs ys) → List·Memᴰ p (pairUp (take n xs) (take n ys)) ⊎ List·Memᴰ p (pairUp (drop n xs) (drop n ys))) → (p ≡ (x, y)) ⊎ List·Memᴰ p (pairUp xs ys)
+        → List·Memᴰ p ((x, y) ∷ pairUp (take n xs) (take n ys)) ⊎ List·Memᴰ p (pairUp (drop n xs) (drop n ys))
+    go ih (inl e) = inl (List·Memᴰ·head e)
+    go ih (inr h) = step (ih h)
+
+pub keepIf-short : {A : Type 0} (p : A → Bool) (l : List A) → length (keepIf p l) ≤ length l
+keepIf-short p [] = omega arith
+keepIf-short {A} p (x ∷ l) = go (p x) (keepIf p l) (keepIf-short p l)
+  where
+    go : (b : Bool) (m : List A) → length m ≤ length l → length (cond b (x ∷ m) m) ≤ suc (length l)
+    go true m h = omega arith
+    go false m h = omega arith
+
+pub without-short : {A : Type 0} (i : ℕ) (l : List A) → length (without i l) ≤ length l
+without-short i [] = omega arith
+without-short zero (x ∷ l) = omega arith
+without-short (suc i) (x ∷ l) = omega (arith, without-short i l)
+
+-- ---- the first n of a list, by what stands at the places below n
+
+module _ {A : Type 0} (z : A) where
+  -- What holds at each place holds of each member.
+  pub of-members : (P : A → Type 0) (l : List A) (n : ℕ) → ((k : ℕ) → k < n → P (getD l k z)) → (a : A) → List·Memᴰ a (take n l) → P a
+  of-members P l zero h a m = absurd (List·Memᴰ·not-nil m)
+  of-members P [] (suc n) h a m = absurd (List·Memᴰ·not-nil m)
+  of-members P (x ∷ l) (suc n) h a m = ⊎-elim (λ e. subst P (sym e) (h 0 (omega arith))) (λ k. of-members P l n (λ j i. h (suc j) (omega arith)) a k) (List·Memᴰ·cases-cons m)
+
+  -- What stands at a place is a member.
+  pub member-at : (l : List A) (n k : ℕ) → k < n → k < length l → List·Memᴰ (getD l k z) (take n l)
+  member-at l zero k h i = absurd (omega arith)
+  member-at [] (suc n) k h i = absurd (omega arith)
+  member-at (x ∷ l) (suc n) zero h i = List·Memᴰ·head refl
+  member-at (x ∷ l) (suc n) (suc k) h i = List·Memᴰ·tail (member-at l n k (omega arith) (omega arith))

@@ -1,10 +1,10 @@
 -- Truth values as evidence: what a test says, and what `&&`, `||` and the tests of equality say.
-use mathlib.Core.Path.{_≡_, refl, ap, subst}
+use mathlib.Core.Path.{_≡_, ap, refl, subst}
 use mathlib.Core.List.{List, [], _∷_}
-use mathlib.Core.Bool.{Bool, true, false, not, _&&_, _||_, Bool·beq}
+use mathlib.Core.Bool.{Bool, Bool·beq, _&&_, _||_, false, not, true}
 use Prim.Native.Nat.{ℕ}
-use lib.IntN.{ℤ, pos, negsuc}
-use lib.Dec.{T, T-not, eqb, eqb→eq, eqb-refl}
+use lib.Dec.{T, T-not, eqb, eqb-refl, eqb→eq}
+use lib.IntN.{negsuc, pos, ℤ}
 use Rattle.lists.specs.Lists.{sameList, sameWhole}
 
 -- A test holds or fails, with the evidence kept

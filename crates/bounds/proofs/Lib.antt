@@ -1,0 +1,7 @@
+-- The laws of squares of bounds.
+pub mod Lower
+pub mod Put
+pub mod Same
+pub mod Values
+pub mod Depths
+pub mod Draw

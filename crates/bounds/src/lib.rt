@@ -1,0 +1,1 @@
+// Bounds between places: definitions and laws, no code.

@@ -1,0 +1,422 @@
+-- What every state reached has, kept by each rule.
+use mathlib.Core.Path.{_∙_, _≡_, ap, refl, subst, sym}
+use mathlib.Core.Logic.{Lift, _⊎_, inl, inr}
+use mathlib.Core.List.{List, List·Memᴰ, List·Memᴰ·append-cases, List·Memᴰ·eq-of-singleton, List·Memᴰ·not-nil, Memᴰ·append-left, Memᴰ·append-right, Memᴰ·cast, Memᴰ·map, Memᴰ·of-map, [], _++_, _∷_, append-assoc, map}
+use mathlib.Core.Option.{Option, none, some}
+use mathlib.Core.Bool.{_&&_, _||_, not}
+use Prim.Native.Nat.{_-_, _<_, _≤_, max, min, suc, ℕ}
+use native.Mathlib.Omega.{arith}
+use lib.Dec.{T, T-not, eqb, eqb-refl, leb, leb→le, le→leb, ltb→lt}
+use lib.ListN.{getD, length}
+use Rattle.basis.specs.Atoms.{Possible}
+use Rattle.basis.specs.Limits.{mostVariables}
+use Rattle.basis.specs.Numbers.{Numbers}
+use Rattle.basis.specs.declared.Atom.{Atom}
+use Rattle.basis.specs.declared.Literal.{Literal}
+use Rattle.lists.proofs.Members.{allOf-in, allOf-out, without-cases, without-out}
+use Rattle.lists.proofs.Tests.{Said, and-i, and-l, and-r, fails, holds, said}
+use Rattle.lists.specs.Lists.{without}
+use Rattle.calculus.specs.Answers.{rising}
+use Rattle.calculus.specs.Checks.{between}
+use Rattle.calculus.specs.Class.{InClass, Limited}
+use Rattle.calculus.specs.Clauses.{Clause, Instanced, complement, ground, groundAtoms, noLiteral, renameAtom, sameLiteral, under}
+use Rattle.calculus.specs.Merging.{factored, reason, resolvent}
+use Rattle.calculus.specs.Rules.{asks, backLevel, clauseExists, complementInConflict, decidedLiteral, instanceFits, isOne, lastIsPropagated, lastLiteral, lastReason, levelAfterSkip, literalExists, literalInstance, next, otherInstances, propagatedTrail}
+use Rattle.calculus.specs.States.{Backtrack, Conflict, Decide, Factorize, Grow, Propagate, Resolve, Skip, State, Step, Unknown, clauseAt, clauses, conflictOf, stands}
+use Rattle.calculus.specs.Trails.{Entry, Origin, Trail, atomsOf, background, cut, decided, decisions, foreground, isDecision, isFalse, levelOf, onTrail, propagated, undefined}
+use Rattle.calculus.specs.Truth.{Follows, Reading, True}
+use Rattle.calculus.proofs.Answers.{Accepted, AllOk}
+use Rattle.calculus.proofs.Class.{factored-class, factored-limited, limited-of, placed, reason-class, reason-own-lt, resolvent-class}
+use Rattle.calculus.proofs.Derived.{factored-atoms, factored-literals, factored-sized, reason-atoms, reason-own, reason-rest, reason-sized, reason-within, resolvent-atoms, resolvent-literals, resolvent-sized}
+use Rattle.calculus.proofs.Instances.{Inside, Sized}
+use Rattle.calculus.proofs.Levels.{CutAt, Found, alike-comp, clause-keep, clause-mem, clause-new, complement-complement, cut-at, cut-false, cut-inside, found, inst-sized, level-le, lowered-decs, max-level, min-max, nor, nor-l, nor-r, off-tail, ok-more, ok-new, or-either, or-right, or-skip, pred-lt, sized-inst, skip-false, snoc, tail-shorter, tail-trans}
+use Rattle.calculus.proofs.Merged.{sameLiteral-refl, sameLiteral→eq}
+use Rattle.calculus.proofs.Trails.{Below, Built, DecOk, PropOk, StepOk, Tail, below, decisions-push, empty, group, grown, here, litBy}
+use Rattle.calculus.proofs.Truths.{alike, factored-true, reason-true, resolvent-true}
+
+-- What every clause held has: it is of the class, within the limits, and true wherever the input is.
+pub record Held (nums : Numbers) (arities : List ℕ) (input : List Clause) (C : Clause) : Type 1 where
+  pub class : InClass arities C
+  pub limited : Limited C
+  pub follows : Follows nums arities input C
+
+-- A conflict N stands over the trail t: t is what is left of the trail t₀ that Conflict was accepted at.
+pub record Stands (nums : Numbers) (arities : List ℕ) (cs input : List Clause) (n : ℕ) (t : Trail) (N : Instanced) : Type 1 where
+  pub t₀ : Trail
+  pub built : Built nums cs n t₀
+  pub tail : Tail t t₀
+  pub possible : Possible nums n (atomsOf t₀ ++ groundAtoms (N .instance) (N .clause .atoms))
+  pub held : Held nums arities input (N .clause)
+  pub sized : Sized n (N .clause .variables) (N .instance)
+  pub isfalse : (l : Literal) → List·Memᴰ l (map (ground (N .instance)) (N .clause .literals)) → T (isFalse t l)
+
+abbrev pub Now : Numbers → State → Option Instanced → Type 1
+Now nums s none = Lift {0, 1} (Built nums (clauses s) (s .constants) (s .trail))
+Now nums s (some N) = Stands nums (s .arities) (clauses s) (s .input) (s .constants) (s .trail) N
+
+-- What every state reached has
+pub record Inv (nums : Numbers) (s : State) : Type 1 where
+  pub held : (C : Clause) → List·Memᴰ C (clauses s) → Held nums (s .arities) (s .input) C
+  pub level : s .level ≡ decisions (s .trail)
+  pub now : Now nums s (s .conflict)
+
+-- The places of a clause are among its variables.
+abbrev pub WellPlaced : Clause → Type 0
+WellPlaced C = Inside (C .variables) (C .atoms) (C .literals)
+
+pub possible-sub : {nums : Numbers} {n : ℕ} {az bz : List Atom} → ((a : Atom) → List·Memᴰ a bz → List·Memᴰ a az) → Possible nums n az → Possible nums n bz
+possible-sub {nums} h p = record { value = p .value; at-zero = p .at-zero; rising = p .rising; every = λ a m. p .every a (h a m) }
+
+-- A conflict without literals: no reading makes every input clause true.
+pub refuted : {nums : Numbers} {arities : List ℕ} {cs input : List Clause} {n : ℕ} {t : Trail} (N : Instanced) → Stands nums arities cs input n t N → N .clause .literals ≡ []
+    → (I : Reading nums arities) → ((K : Clause) → List·Memᴰ K input → True nums arities I K) → ⊥
+refuted {nums} N st e I h = st .held .follows I h (λ x. st .possible .value (under (N .instance) x)) (st .possible .at-zero)
+    (λ a m. st .possible .every (renameAtom (under (N .instance)) a) (Memᴰ·append-right (atomsOf (st .t₀)) (Memᴰ·map (renameAtom (under (N .instance))) m)))
+    (λ l m. absurd (List·Memᴰ·not-nil (subst (List·Memᴰ l) e m)))
+
+free : {nums : Numbers} (s : State) (o : Option Instanced) → Now nums s o → T (not (stands o)) → Built nums (clauses s) (s .constants) (s .trail)
+free {nums} s none w t = w .lower
+free {nums} s (some N) w t = absurd t
+
+stood : {nums : Numbers} (s : State) (o : Option Instanced) → Now nums s o → T (stands o) → Stands nums (s .arities) (clauses s) (s .input) (s .constants) (s .trail) (conflictOf o)
+stood {nums} s none w t = absurd t
+stood {nums} s (some N) w t = w
+
+-- ---- Propagate, Decide, Conflict, Grow
+inv-propagate : {nums : Numbers} (s : State) (c l : ℕ) (τ : List ℕ) → Inv nums s → Accepted nums s (Propagate c l τ) (next s (Propagate c l τ)) → Inv nums (next s (Propagate c l τ))
+inv-propagate {nums} s c l τ v a = record {
+  held = v .held;
+  level = v .level ∙ sym (decisions-push (groundAtoms τ (C .atoms)) (foreground (ground τ (getD (C .literals) (l - 1) noLiteral)) (propagated c l τ) ∷ s .trail));
+  now = record {
+    lower = group (propagated c l τ) (free s (s .conflict) (v .now) (k .1 .0)) (
+      and-l (clauseExists (clauses s) c) (literalExists C l && instanceFits (s .constants) C τ) (k .1 .1 .0),
+      record { short = k .0; named = and-r (clauseExists (clauses s) c) (literalExists C l && instanceFits (s .constants) C τ) (k .1 .1 .0); undefd = k .1 .1 .1 .0; others = k .1 .1 .1 .1 .0; possible = a .decides .0 (k .1 .1 .1 .1 .1 .0); room = k .1 .1 .1 .1 .1 .1 .0 },
+    ) refl;
+  };
+}
+  where
+    C : Clause
+    C = clauseAt (clauses s) c
+
+    k : AllOk (asks (a .possible) s (Propagate c l τ))
+    k = a .checks
+
+inv-decide : {nums : Numbers} (s : State) (c l g : ℕ) (τ : List ℕ) → Inv nums s → Accepted nums s (Decide c l g τ) (next s (Decide c l g τ)) → Inv nums (next s (Decide c l g τ))
+inv-decide {nums} s c l g τ v a = record {
+  held = v .held;
+  level = ap suc (v .level);
+  now = record {
+    lower = group (decided c l (isOne g) τ) (free s (s .conflict) (v .now) (k .1 .1 .0)) (
+      and-l (clauseExists (clauses s) c) (literalExists C l && instanceFits (s .constants) C τ) (k .1 .1 .1 .0),
+      record { short = k .0; named = and-r (clauseExists (clauses s) c) (literalExists C l && instanceFits (s .constants) C τ) (k .1 .1 .1 .0); undefd = k .1 .1 .1 .1 .0; room = k .1 .1 .1 .1 .1 .0 },
+    ) refl;
+  };
+}
+  where
+    C : Clause
+    C = clauseAt (clauses s) c
+
+    k : AllOk (asks (a .possible) s (Decide c l g τ))
+    k = a .checks
+
+inv-conflict : {nums : Numbers} (s : State) (c : ℕ) (τ : List ℕ) → Inv nums s → Accepted nums s (Conflict c τ) (next s (Conflict c τ)) → Inv nums (next s (Conflict c τ))
+inv-conflict {nums} s c τ v a = record {
+  held = v .held;
+  level = v .level;
+  now = record {
+    t₀ = s .trail;
+    built = free s (s .conflict) (v .now) (k .1 .0);
+    tail = here refl;
+    possible = a .decides .0 (k .1 .1 .1 .1 .0);
+    held = v .held C m;
+    sized = inst-sized (s .constants) C τ (and-r (clauseExists (clauses s) c) (instanceFits (s .constants) C τ) (k .1 .1 .0));
+    isfalse = λ l h. let (b, d, e) = Memᴰ·of-map (ground τ) (C .literals) h in subst (λ q. T (isFalse (s .trail) q)) e (allOf-out (λ m. isFalse (s .trail) (ground τ m)) (C .literals) (k .1 .1 .1 .0) d);
+  };
+}
+  where
+    C : Clause
+    C = clauseAt (clauses s) c
+
+    k : AllOk (asks (a .possible) s (Conflict c τ))
+    k = a .checks
+
+    m : List·Memᴰ C (clauses s)
+    m = clause-mem (clauses s) c (and-l (clauseExists (clauses s) c) (instanceFits (s .constants) C τ) (k .1 .1 .0))
+
+inv-grow : {nums : Numbers} (s : State) (n : ℕ) → Inv nums s → Inv nums (next s (Grow n))
+inv-grow {nums} s n v = record { held = v .held; level = refl; now = record { lower = empty refl } }
+
+inv-skip : {nums : Numbers} (s : State) → Inv nums s → Accepted nums s Skip (next s Skip) → Inv nums (next s Skip)
+inv-skip {nums} s v a = record { held = v .held; level = ap (levelAfterSkip (s .trail)) (v .level) ∙ lowered-decs (s .trail); now = go (s .conflict) (v .now) (k .0) (k .1 .1 .0) }
+  where
+    k : AllOk (asks (a .possible) s Skip)
+    k = a .checks
+
+    go : (o : Option Instanced) → Now nums s o → T (stands o) → T (not (complementInConflict (conflictOf o) (s .trail))) → Now nums (next s Skip) o
+    go none w h b = absurd h
+    go (some N) w h b = record { t₀ = w .t₀; built = w .built; tail = tail-shorter (s .trail) (w .tail); possible = w .possible; held = w .held; sized = w .sized; isfalse = λ l m. skip-false N (s .trail) b l m (w .isfalse l m) }
+
+stands-factor : {nums : Numbers} {arities : List ℕ} {cs input : List Clause} {n : ℕ} {t : Trail} (N : Instanced) (i j : ℕ) → T (literalExists (N .clause) i && (literalExists (N .clause) j && not (eqb i j))) → T (sameLiteral (literalInstance N i) (literalInstance N j)) → Stands nums arities cs input n t N → Stands nums arities cs input n t (factored N (i - 1) (j - 1))
+stands-factor {nums} {arities} {cs} {input} {n} {t} N i j k e w = record {
+  t₀ = w .t₀;
+  built = w .built;
+  tail = w .tail;
+  possible = possible-sub (λ a m. sub a (List·Memᴰ·append-cases (atomsOf (w .t₀)) m)) (w .possible);
+  held = record {
+    class = factored-class N (i - 1) (j - 1) lt (w .held .class) meet;
+    limited = factored-limited N (i - 1) (j - 1) (w .held .limited);
+    follows = λ I h. factored-true nums arities I N (i - 1) (j - 1) (alike (N .instance) (getD (N .clause .literals) (max (i - 1) (j - 1)) noLiteral) (getD (N .clause .literals) (min (i - 1) (j - 1)) noLiteral) (sym meet)) (omega (arith, i≥, j≥, ne)) lt (w .held .follows I h);
+  };
+  sized = factored-sized N (i - 1) (j - 1) n (placed (w .held .class)) (w .sized) meet;
+  isfalse = λ l m. w .isfalse l (keep l (subst (List·Memᴰ l) (factored-literals N (i - 1) (j - 1) n (placed (w .held .class)) (w .sized) meet) m));
+}
+  where
+    len : ℕ
+    len = length (N .clause .literals)
+
+    k₂ : T (literalExists (N .clause) j && not (eqb i j))
+    k₂ = and-r (literalExists (N .clause) i) (literalExists (N .clause) j && not (eqb i j)) k
+
+    hi : T (between 1 len i)
+    hi = and-l (literalExists (N .clause) i) (literalExists (N .clause) j && not (eqb i j)) k
+
+    hj : T (between 1 len j)
+    hj = and-l (literalExists (N .clause) j) (not (eqb i j)) k₂
+
+    i≥ : 1 ≤ i
+    i≥ = leb→le 1 i (and-l (leb 1 i) (leb i len) hi)
+
+    j≥ : 1 ≤ j
+    j≥ = leb→le 1 j (and-l (leb 1 j) (leb j len) hj)
+
+    i< : i - 1 < len
+    i< = pred-lt i len hi
+
+    j< : j - 1 < len
+    j< = pred-lt j len hj
+
+    lt : max (i - 1) (j - 1) < len
+    lt = omega (arith, i<, j<)
+
+    ne : ¬ (i ≡ j)
+    ne p = T-not (eqb i j) (and-r (literalExists (N .clause) j) (not (eqb i j)) k₂) (subst (λ q. T (eqb i q)) p (eqb-refl i))
+
+    meet : ground (N .instance) (getD (N .clause .literals) (min (i - 1) (j - 1)) noLiteral) ≡ ground (N .instance) (getD (N .clause .literals) (max (i - 1) (j - 1)) noLiteral)
+    meet = min-max (λ q. ground (N .instance) (getD (N .clause .literals) q noLiteral)) (i - 1) (j - 1) (sameLiteral→eq (literalInstance N i) (literalInstance N j) e)
+
+    sub : (a : Atom) → List·Memᴰ a (atomsOf (w .t₀)) ⊎ List·Memᴰ a (groundAtoms (factored N (i - 1) (j - 1) .instance) (factored N (i - 1) (j - 1) .clause .atoms)) → List·Memᴰ a (atomsOf (w .t₀) ++ groundAtoms (N .instance) (N .clause .atoms))
+    sub a (inl m) = Memᴰ·append-left (groundAtoms (N .instance) (N .clause .atoms)) m
+    sub a (inr m) = Memᴰ·append-right (atomsOf (w .t₀)) (factored-atoms N (i - 1) (j - 1) n (placed (w .held .class)) (w .sized) meet m)
+
+    keep : (l : Literal) → List·Memᴰ l (map (ground (N .instance)) (without (max (i - 1) (j - 1)) (N .clause .literals))) → List·Memᴰ l (map (ground (N .instance)) (N .clause .literals))
+    keep l m = let (x, y, z) = Memᴰ·of-map (ground (N .instance)) (without (max (i - 1) (j - 1)) (N .clause .literals)) m in Memᴰ·cast (sym z) (Memᴰ·map (ground (N .instance)) (without-out (max (i - 1) (j - 1)) (N .clause .literals) y))
+
+inv-factorize : {nums : Numbers} (s : State) (i j : ℕ) → Inv nums s → Accepted nums s (Factorize i j) (next s (Factorize i j)) → Inv nums (next s (Factorize i j))
+inv-factorize {nums} s i j v a = record { held = v .held; level = v .level; now = stands-factor (conflictOf (s .conflict)) i j (k .1 .0) (k .1 .1 .0) (stood s (s .conflict) (v .now) (k .0)) }
+  where
+    k : AllOk (asks (a .possible) s (Factorize i j))
+    k = a .checks
+
+stands-resolve : {nums : Numbers} (arities : List ℕ) (cs input : List Clause) (n : ℕ) → ((C : Clause) → List·Memᴰ C cs → Held nums arities input C)
+    → (N : Instanced) (j : ℕ) (t : Trail) → T (literalExists (N .clause) j) → Limited (resolvent N (j - 1) (lastReason cs t .of) (lastReason cs t .own) .clause) → T (lastIsPropagated t) → T (sameLiteral (complement (lastLiteral t)) (literalInstance N j)) → Stands nums arities cs input n t N
+    → Stands nums arities cs input n t (resolvent N (j - 1) (lastReason cs t .of) (lastReason cs t .own))
+stands-resolve {nums} arities cs input n helds N j [] okj few p e w = absurd p
+stands-resolve {nums} arities cs input n helds N j (background a ∷ t) okj few p e w = absurd p
+stands-resolve {nums} arities cs input n helds N j (foreground l (decided c i b τ) ∷ t) okj few p e w = absurd p
+stands-resolve {nums} arities cs input n helds N j (foreground l (propagated c i τ) ∷ t) okj few p e w = record {
+  t₀ = w .t₀;
+  built = w .built;
+  tail = w .tail;
+  possible = possible-sub (λ a m. sub a (List·Memᴰ·append-cases (atomsOf (w .t₀)) m)) (w .possible);
+  held = record {
+    class = resolvent-class N (j - 1) R o (pred-lt j (length (N .clause .literals)) okj) own-lt (w .held .class) (reason-class C (i - 1) τ lt (helds C memC .class)) (alike-comp (N .instance) (R .instance) (getD (N .clause .literals) (j - 1) noLiteral) (getD (R .clause .literals) o noLiteral) meet);
+    limited = few;
+    follows = λ I h. resolvent-true nums arities I N (j - 1) R o (alike-comp (N .instance) (R .instance) (getD (N .clause .literals) (j - 1) noLiteral) (getD (R .clause .literals) o noLiteral) meet) (w .held .follows I h) (reason-true nums arities I C (i - 1) τ lt (helds C memC .follows I h));
+  };
+  sized = resolvent-sized N (j - 1) R o n (placed (w .held .class)) (w .sized) wR sR meet;
+  isfalse = λ k m. fal k (List·Memᴰ·append-cases (map (ground (N .instance)) (without (j - 1) (N .clause .literals))) (subst (List·Memᴰ k) (resolvent-literals N (j - 1) R o n (placed (w .held .class)) (w .sized) wR sR meet) m));
+}
+  where
+    C : Clause
+    C = clauseAt cs c
+
+    B : Below nums cs n t l (propagated c i τ) (w .t₀)
+    B = below nums cs n (w .built) (w .tail)
+
+    okc : T (clauseExists cs c)
+    okc = B .ok .0
+
+    P : PropOk nums n t C c i τ
+    P = B .ok .1
+
+    memC : List·Memᴰ C cs
+    memC = clause-mem cs c okc
+
+    lt : i - 1 < length (C .literals)
+    lt = pred-lt i (length (C .literals)) (and-l (literalExists C i) (instanceFits n C τ) (P .named))
+
+    szC : Sized n (C .variables) τ
+    szC = inst-sized n C τ (and-r (literalExists C i) (instanceFits n C τ) (P .named))
+
+    R : Instanced
+    R = reason C (i - 1) τ .of
+
+    o : ℕ
+    o = reason C (i - 1) τ .own
+
+    own-lt : o < length (R .clause .literals)
+    own-lt = reason-own-lt C (i - 1) τ lt
+
+    wR : WellPlaced (R .clause)
+    wR = reason-within C (i - 1) τ n lt (placed (helds C memC .class)) szC
+
+    sR : Sized n (R .clause .variables) (R .instance)
+    sR = reason-sized C (i - 1) τ n lt (placed (helds C memC .class)) szC
+
+    g : Literal
+    g = ground τ (getD (C .literals) (i - 1) noLiteral)
+
+    own : ground (R .instance) (getD (R .clause .literals) o noLiteral) ≡ g
+    own = reason-own C (i - 1) τ n lt (placed (helds C memC .class)) szC
+
+    meet : ground (N .instance) (getD (N .clause .literals) (j - 1) noLiteral) ≡ complement (ground (R .instance) (getD (R .clause .literals) o noLiteral))
+    meet = sym (sameLiteral→eq (complement l) (literalInstance N j) e) ∙ ap complement (B .lit ∙ sym own)
+
+    sub : (a : Atom) → List·Memᴰ a (atomsOf (w .t₀)) ⊎ List·Memᴰ a (groundAtoms (resolvent N (j - 1) R o .instance) (resolvent N (j - 1) R o .clause .atoms)) → List·Memᴰ a (atomsOf (w .t₀) ++ groundAtoms (N .instance) (N .clause .atoms))
+    sub a (inl m) = Memᴰ·append-left (groundAtoms (N .instance) (N .clause .atoms)) m
+    sub a (inr m) = go (resolvent-atoms N (j - 1) R o n (placed (w .held .class)) (w .sized) wR sR meet m)
+      where
+        go : List·Memᴰ a (groundAtoms (N .instance) (N .clause .atoms)) ⊎ List·Memᴰ a (groundAtoms (R .instance) (R .clause .atoms)) → List·Memᴰ a (atomsOf (w .t₀) ++ groundAtoms (N .instance) (N .clause .atoms))
+        go (inl m) = Memᴰ·append-right (atomsOf (w .t₀)) m
+        go (inr m) = Memᴰ·append-left (groundAtoms (N .instance) (N .clause .atoms)) (B .has a (reason-atoms C (i - 1) τ n lt (placed (helds C memC .class)) szC m))
+
+    fal : (k : Literal) → List·Memᴰ k (map (ground (N .instance)) (without (j - 1) (N .clause .literals))) ⊎ List·Memᴰ k (map (ground (R .instance)) (without o (R .clause .literals))) → T (isFalse (foreground l (propagated c i τ) ∷ t) k)
+    fal k (inl m) = let (x, y, z) = Memᴰ·of-map (ground (N .instance)) (without (j - 1) (N .clause .literals)) m in w .isfalse k (Memᴰ·cast (sym z) (Memᴰ·map (ground (N .instance)) (without-out (j - 1) (N .clause .literals) y)))
+    fal k (inr m) =
+        let (x, y, z, q) = reason-rest C (i - 1) τ n lt (placed (helds C memC .class)) szC m in
+        subst (λ u. T (isFalse (foreground l (propagated c i τ) ∷ t) u)) q
+        (or-right (sameLiteral (complement (ground τ x)) l) (isFalse t (ground τ x)) (or-skip (sameLiteral (ground τ x) g) (isFalse t (ground τ x)) (allOf-out (λ m. sameLiteral (ground τ m) g || isFalse t (ground τ m)) (C .literals) (P .others) y) z))
+
+inv-resolve : {nums : Numbers} (s : State) (j : ℕ) → Inv nums s → Accepted nums s (Resolve j) (next s (Resolve j)) → Inv nums (next s (Resolve j))
+inv-resolve {nums} s j v a = record { held = v .held; level = v .level; now = stands-resolve (s .arities) (clauses s) (s .input) (s .constants) (v .held) (conflictOf (s .conflict)) j (s .trail) (k .1 .0) (limited-of (resolvent (conflictOf (s .conflict)) (j - 1) (lastReason (clauses s) (s .trail) .of) (lastReason (clauses s) (s .trail) .own) .clause) (k .1 .1 .1 .1 .0)) (k .1 .1 .0) (k .1 .1 .1 .0) (stood s (s .conflict) (v .now) (k .0)) }
+  where
+    k : AllOk (asks (a .possible) s (Resolve j))
+    k = a .checks
+
+built-more : {nums : Numbers} (cs : List Clause) (D : Clause) (n : ℕ) {t : Trail} → Built nums cs n t → Built nums (snoc cs D) n t
+built-more {nums} cs D n (empty e) = empty e
+built-more {nums} cs D n {t} (group {t = u} m b k e) = go m k e (built-more cs D n b)
+  where
+    go : (m : Origin) → StepOk nums cs n u m → t ≡ grown cs m u → Built nums (snoc cs D) n u → Built nums (snoc cs D) n t
+    go (propagated c l τ) k e b = let q = sym (clause-keep cs D c (k .0)) in
+        group (propagated c l τ) b (ok-more cs D c (k .0), subst (λ K. PropOk nums n u K c l τ) q (k .1)) (e ∙ ap (λ K. propagatedTrail K (l - 1) τ (propagated c l τ) u) q)
+    go (decided c l s τ) k e b = let q = sym (clause-keep cs D c (k .0)) in
+        group (decided c l s τ) b (ok-more cs D c (k .0), subst (λ K. DecOk n u K l s τ) q (k .1)) (e ∙ ap {B = Trail} (λ K. foreground (decidedLiteral K (l - 1) s τ) (decided c l s τ) ∷ u) q)
+
+cut-built : {nums : Numbers} (cs : List Clause) (n : ℕ) {t₀ : Trail} (t : Trail) (i : ℕ) → Built nums cs n t₀ → Tail t t₀ → CutAt i t → Built nums cs n (cut i t)
+cut-built {nums} cs n {t₀} t i b h r = go (r .entry) (r .dec) (tail-trans (r .under) h)
+  where
+    go : (e : Entry) → T (isDecision e) → Tail (e ∷ cut i t) t₀ → Built nums cs n (cut i t)
+    go (foreground l m) d k = below nums cs n b k .built
+    go (background a) d k = absurd d
+
+pub step-undef : (nums : Numbers) (cs : List Clause) (n : ℕ) (t : Trail) (m : Origin) → StepOk nums cs n t m → T (undefined t (litBy cs m))
+step-undef nums cs n t (propagated c l τ) k = k .1 .undefd
+step-undef nums cs n t (decided c l b τ) k = k .1 .undefd
+
+cut-undef : {nums : Numbers} (cs : List Clause) (n : ℕ) {t₀ : Trail} (t : Trail) (i : ℕ) (k : Literal) → Built nums cs n t₀ → Tail t t₀ → i < levelOf k t → T (undefined (cut i t) k)
+cut-undef {nums} cs n {t₀} t i k b h lt = go (said (sameLiteral k (F .lit)))
+  where
+    F : Found k t
+    F = found k t (omega arith)
+
+    B : Below nums cs n (F .rest) (F .lit) (F .made) t₀
+    B = below nums cs n b (tail-trans (F .at) h)
+
+    U : T (undefined (F .rest) (F .lit))
+    U = subst (λ q. T (undefined (F .rest) q)) (sym (B .lit)) (step-undef nums cs n (F .rest) (F .made) (B .ok))
+
+    In : Tail (cut i t) (F .rest)
+    In = cut-inside i (F .at) (omega (arith, F .lev))
+
+    off : (q : Literal) → T (not (onTrail q (F .rest))) → T (not (onTrail q (cut i t)))
+    off q = off-tail q In
+
+    U₁ : T (not (onTrail (F .lit) (F .rest)))
+    U₁ = nor-l (onTrail (F .lit) (F .rest)) (onTrail (complement (F .lit)) (F .rest)) U
+
+    U₂ : T (not (onTrail (complement (F .lit)) (F .rest)))
+    U₂ = nor-r (onTrail (F .lit) (F .rest)) (onTrail (complement (F .lit)) (F .rest)) U
+
+    go : Said (sameLiteral k (F .lit)) → T (undefined (cut i t) k)
+    go (holds e) = let p = sym (sameLiteral→eq k (F .lit) e) in
+        nor (onTrail k (cut i t)) (onTrail (complement k) (cut i t)) (subst (λ q. T (not (onTrail q (cut i t)))) p (off (F .lit) U₁)) (subst (λ q. T (not (onTrail (complement q) (cut i t)))) p (off (complement (F .lit)) U₂))
+    go (fails e) = let p = sym (sameLiteral→eq (complement k) (F .lit) (or-skip (sameLiteral k (F .lit)) (sameLiteral (complement k) (F .lit)) (F .hit) e)) in
+        nor (onTrail k (cut i t)) (onTrail (complement k) (cut i t)) (subst (λ q. T (not (onTrail q (cut i t)))) (ap complement p ∙ complement-complement k) (off (complement (F .lit)) U₂)) (subst (λ q. T (not (onTrail q (cut i t)))) p (off (F .lit) U₁))
+
+backtracked : {nums : Numbers} {arities : List ℕ} {cs input : List Clause} {n : ℕ} {t : Trail} (N : Instanced) (l : ℕ) → Stands nums arities cs input n t N
+    → T (literalExists (N .clause) l) → backLevel N l t < levelOf (literalInstance N l) t
+    → Possible nums n (atomsOf (cut (backLevel N l t) t) ++ groundAtoms (N .instance) (N .clause .atoms))
+    → T (leb (length (propagatedTrail (N .clause) (l - 1) (N .instance) (propagated (suc (length cs)) l (N .instance)) (cut (backLevel N l t) t))) 160)
+    → Built nums (snoc cs (N .clause)) n (propagatedTrail (N .clause) (l - 1) (N .instance) (propagated (suc (length cs)) l (N .instance)) (cut (backLevel N l t) t))
+backtracked {nums} {arities} {cs} {input} {n} {t} N l w okl lt possible room =
+    group (propagated (suc (length cs)) l (N .instance)) (built-more cs (N .clause) n (cut-built cs n t i (w .built) (w .tail) (cut-at i t (omega (arith, level-le (literalInstance N l) t))))) (
+      ok-new cs (N .clause),
+      subst (λ K. PropOk nums n (cut i t) K (suc (length cs)) l (N .instance)) q
+          (record { short = le→leb (length (N .instance)) mostVariables (omega (arith, w .sized .size, w .held .limited .few-variables)); named = and-i (literalExists (N .clause) l) (instanceFits n (N .clause) (N .instance)) okl (sized-inst n (N .clause) (N .instance) (w .sized)); undefd = cut-undef cs n t i (literalInstance N l) (w .built) (w .tail) lt; others = allOf-in (λ m. sameLiteral (ground (N .instance) m) (literalInstance N l) || isFalse (cut i t) (ground (N .instance) m)) (N .clause .literals) (λ m h. each m h (without-cases (l - 1) (N .clause .literals) noLiteral h)); possible = possible; room = room }),
+    )
+    (ap (λ K. propagatedTrail K (l - 1) (N .instance) (propagated (suc (length cs)) l (N .instance)) (cut i t)) q)
+  where
+    i : ℕ
+    i = backLevel N l t
+
+    q : N .clause ≡ clauseAt (snoc cs (N .clause)) (suc (length cs))
+    q = sym (clause-new cs (N .clause))
+
+    each : (m : Literal) → List·Memᴰ m (N .clause .literals) → (m ≡ getD (N .clause .literals) (l - 1) noLiteral) ⊎ List·Memᴰ m (without (l - 1) (N .clause .literals)) → T (sameLiteral (ground (N .instance) m) (literalInstance N l) || isFalse (cut i t) (ground (N .instance) m))
+    each m h (inl e) = or-either (sameLiteral (ground (N .instance) m) (literalInstance N l)) (isFalse (cut i t) (ground (N .instance) m)) (inl (subst (λ u. T (sameLiteral (ground (N .instance) m) (ground (N .instance) u))) e (sameLiteral-refl (ground (N .instance) m))))
+    each m h (inr k) = or-either (sameLiteral (ground (N .instance) m) (literalInstance N l)) (isFalse (cut i t) (ground (N .instance) m)) (inr (cut-false i (ground (N .instance) m) t (w .isfalse (ground (N .instance) m) (Memᴰ·map (ground (N .instance)) h)) (max-level (ground (N .instance) m) t (otherInstances N l) (Memᴰ·map (ground (N .instance)) k))))
+
+inv-backtrack : {nums : Numbers} (s : State) (l : ℕ) → Inv nums s → Accepted nums s (Backtrack l) (next s (Backtrack l)) → Inv nums (next s (Backtrack l))
+inv-backtrack {nums} s l v a = record {
+  held = λ C m. helds C (List·Memᴰ·append-cases (clauses s) (subst (List·Memᴰ C) (sym asc) m));
+  level = sym (decisions-push (groundAtoms (N .instance) (N .clause .atoms)) (foreground (literalInstance N l) (propagated (suc (length (clauses s))) l (N .instance)) ∷ cut i (s .trail)) ∙ cut-at i (s .trail) (omega (arith, lt, level-le (literalInstance N l) (s .trail))) .depth);
+  now = record { lower = subst (λ cs. Built nums cs (s .constants) (next s (Backtrack l) .trail)) asc (backtracked N l w (k .1 .0) lt (a .decides .0 (k .1 .1 .1 .1 .0)) (and-l (leb (length (next s (Backtrack l) .trail)) 160) (leb (suc (length (s .learned))) 48) (k .1 .1 .1 .1 .1 .0))) };
+}
+  where
+    k : AllOk (asks (a .possible) s (Backtrack l))
+    k = a .checks
+
+    N : Instanced
+    N = conflictOf (s .conflict)
+
+    w : Stands nums (s .arities) (clauses s) (s .input) (s .constants) (s .trail) N
+    w = stood s (s .conflict) (v .now) (k .0)
+
+    i : ℕ
+    i = backLevel N l (s .trail)
+
+    lt : i < levelOf (literalInstance N l) (s .trail)
+    lt = ltb→lt i (levelOf (literalInstance N l) (s .trail)) (k .1 .1 .1 .0)
+
+    asc : snoc (clauses s) (N .clause) ≡ s .input ++ (s .learned ++ (N .clause ∷ []))
+    asc = append-assoc (s .input) (s .learned) (N .clause ∷ [])
+
+    helds : (C : Clause) → List·Memᴰ C (clauses s) ⊎ List·Memᴰ C (N .clause ∷ []) → Held nums (s .arities) (s .input) C
+    helds C (inl m) = v .held C m
+    helds C (inr m) = subst (Held nums (s .arities) (s .input)) (sym (List·Memᴰ·eq-of-singleton m)) (w .held)
+
+-- ---- every rule
+pub inv-step : {nums : Numbers} (s : State) (x : Step) (s′ : State) → Inv nums s → Accepted nums s x s′ → Inv nums s′
+inv-step {nums} s x s′ v a = subst (Inv nums) (sym (a .is)) (go x (record { possible = a .possible; decides = a .decides; checks = a .checks; is = refl }))
+  where
+    go : (x : Step) → Accepted nums s x (next s x) → Inv nums (next s x)
+    go (Propagate c l τ) a = inv-propagate s c l τ v a
+    go (Decide c l g τ) a = inv-decide s c l g τ v a
+    go (Conflict c τ) a = inv-conflict s c τ v a
+    go (Resolve l) a = inv-resolve s l v a
+    go (Factorize i j) a = inv-factorize s i j v a
+    go Skip a = inv-skip s v a
+    go (Backtrack l) a = inv-backtrack s l v a
+    go (Grow n) a = inv-grow s n v
+    go (Unknown r) a = absurd (a .checks .0)

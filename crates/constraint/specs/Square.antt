@@ -1,0 +1,85 @@
+-- The square of 17 by 17 bounds that the test works on, what the private functions do to it, and that no sum of bounds overflows.
+-- The promise is in Test and needs nothing of this.
+use mathlib.Core.List.{List, []}
+use mathlib.Core.Logic.{_↔_}
+use Prim.Native.Nat.{ℕ, zero, suc, _≤_, _<_}
+use lib.ListN.{getD}
+use lib.IntN.{ℤ, pos, negsuc, _+ℤ_}
+use mir.Syntax.{w64}
+use mir.Val.{SFits}
+use Rattle.basis.specs.declared.Atom.{Atom}
+use Rattle.basis.specs.Atoms.{Proper}
+use Rattle.integers.specs.Sides.{Within}
+use Rattle.bounds.specs.Whole.{wholeBounds}
+use Rattle.bounds.specs.Squares.{Keeps, KeepsAll, Closed}
+use Rattle.constraint.specs.Test.{atomAt}
+
+-- "a table of bounds between every two of 17 places (16 constants and zero)"
+abbrev pub places : ℕ
+places = 17
+
+-- The largest bound that may be put in: one beyond the limit of c, since p - q ≤ c fails exactly if q - p ≤ -c - 1 holds.
+abbrev pub mostBound : ℕ
+mostBound = 1000001
+
+-- The bound that stands in place of none: 17 times the largest. Values can be drawn together until they keep it.
+abbrev pub far : ℕ
+far = 17000017
+
+-- The largest sum of a bound of the square and the one put in, ..
+abbrev pub mostChain : ℕ
+mostChain = 18000018
+
+-- .. and of these and a second bound of the square: no sum that the test forms is larger.
+abbrev pub mostSum : ℕ
+mostSum = 35000035
+
+-- The bound at j of a row, and at i and j of the square.
+abbrev pub at : List ℤ → ℕ → ℤ
+at row j = getD row j (pos 0)
+
+abbrev pub entry : List (List ℤ) → ℕ → ℕ → ℤ
+entry t i j = at (getD t i []) j
+
+-- The square is closed, and each bound lies from -far to far.
+pub record Sound (t : List (List ℤ)) : Type 0 where
+  pub closed : Closed wholeBounds places (entry t)
+  pub small : (i j : ℕ) → i < places → j < places → Within far (entry t i j)
+
+-- The square says of values exactly what Q says.
+pub record Stands (Q : (ℕ → ℤ) → Type 0) (t : List (List ℤ)) : Type 0 where
+  pub sound : Sound t
+  pub exact : (v : ℕ → ℤ) → KeepsAll wholeBounds places (entry t) v ↔ Q v
+
+-- No two values lie further apart than far.
+abbrev pub Near : (ℕ → ℤ) → Type 0
+Near v = (i j : ℕ) → i < places → j < places → Keeps wholeBounds v i j (pos far)
+
+-- b1 < b2 < .. as far as the constant i, as bounds: value j - value (j + 1) ≤ -1.
+abbrev pub Ordered : ℕ → (ℕ → ℤ) → Type 0
+Ordered i v = Near v × ((j : ℕ) → 1 ≤ j → j < i → Keeps wholeBounds v j (suc j) (negsuc 0))
+
+-- The atom at k, as a bound.
+abbrev pub Meets : List Atom → (ℕ → ℤ) → ℕ → Type 0
+Meets atoms v k = Keeps wholeBounds v (atomAt atoms k .p) (atomAt atoms k .q) (atomAt atoms k .c)
+
+-- The order and the first k atoms.
+abbrev pub Posed : ℕ → List Atom → ℕ → (ℕ → ℤ) → Type 0
+Posed constants atoms k v = Ordered constants v × ((j : ℕ) → j < k → Meets atoms v j)
+
+-- 0 where the first `count` atoms are proper, and else the number of the first that is not.
+abbrev pub FirstImproper : ℕ → ℕ → List Atom → ℕ → Type 0
+FirstImproper constants count atoms zero = (j : ℕ) → j < count → Proper constants (atomAt atoms j)
+FirstImproper constants count atoms (suc k) = (k < count) × ((j : ℕ) → j < k → Proper constants (atomAt atoms j)) × ¬ Proper constants (atomAt atoms k)
+
+-- No sum of bounds overflows: each sum that the test forms, of a sound square and a bound put in, lies from -35,000,035 to 35,000,035,
+-- and 64 bits hold it. Every square of the test is sound. Proved in proofs/Sums.antt.
+pub record NoOverflow : Type 0 where
+  -- The bound put in, after one of the square, ..
+  pub chain : (t : List (List ℤ)) (c : ℤ) → Sound t → Within mostBound c → (i p : ℕ) → i < places → p < places → Within mostChain (entry t i p +ℤ c)
+  -- .. and before another.
+  pub long-chain : (t : List (List ℤ)) (c : ℤ) → Sound t → Within mostBound c → (i p q j : ℕ) → i < places → p < places → q < places → j < places →
+      Within mostSum ((entry t i p +ℤ c) +ℤ entry t q j)
+  -- The chain that it closes.
+  pub round : (t : List (List ℤ)) (c : ℤ) → Sound t → Within mostBound c → (p q : ℕ) → p < places → q < places → Within mostChain (c +ℤ entry t q p)
+  pub held : (z : ℤ) → Within mostSum z → SFits w64 z

@@ -1,0 +1,48 @@
+-- The order of whole numbers: what a test leaves, transitivity, sums on both sides, and ranges.
+use mathlib.Core.Path.{_≡_, sym, subst}
+use mathlib.Core.Bool.{Bool, true, false, not}
+use Prim.Native.Nat.{ℕ, _+_, _≤_}
+use native.Mathlib.Omega.{arith}
+use lib.Dec.{T}
+use lib.IntN.{ℤ, negℤ, _+ℤ_, _-ℤ_}
+use lib.Signed.{_≤ℤ_, _<ℤ_, leZ, ltZ, leZ-yes, ltZ-yes, ltZ-no}
+use Rattle.integers.specs.Sides.{Within}
+use Rattle.integers.proofs.Linear.{le→, lt→, →le, →eq, sum, negated}
+
+pub ltZ-true : {a b : ℤ} → ltZ a b ≡ true → a <ℤ b
+ltZ-true e = ltZ-yes (subst T (sym e) tt)
+
+pub ltZ-false : {a b : ℤ} → ltZ a b ≡ false → b ≤ℤ a
+ltZ-false e = ltZ-no (subst (λ (t : Bool). T (not t)) (sym e) tt)
+
+pub leZ-true : {a b : ℤ} → leZ a b ≡ true → a ≤ℤ b
+leZ-true e = leZ-yes (subst T (sym e) tt)
+
+pub <→≤ : {a b : ℤ} → a <ℤ b → a ≤ℤ b
+<→≤ {a} {b} h = →le a b (omega (arith, lt→ h))
+
+pub ≤ℤ-trans : {a b c : ℤ} → a ≤ℤ b → b ≤ℤ c → a ≤ℤ c
+≤ℤ-trans {a} {b} {c} h k = →le a c (omega (arith, le→ h, le→ k))
+
+pub ≤ℤ-antisym : {a b : ℤ} → a ≤ℤ b → b ≤ℤ a → a ≡ b
+≤ℤ-antisym {a} {b} h k = →eq a b (omega (arith, le→ h, le→ k))
+
+pub +ℤ-mono : {a b c d : ℤ} → a ≤ℤ b → c ≤ℤ d → (a +ℤ c) ≤ℤ (b +ℤ d)
++ℤ-mono {a} {b} {c} {d} h k = →le (a +ℤ c) (b +ℤ d) (omega (arith, le→ h, le→ k, sum a c, sum b d))
+
+pub +ℤ-cancel : {a b : ℤ} (c : ℤ) → (a +ℤ c) ≤ℤ (b +ℤ c) → a ≤ℤ b
++ℤ-cancel {a} {b} c h = →le a b (omega (arith, le→ h, sum a c, sum b c))
+
+-- x - y ≤ c, said by a sum.
+pub by-sum : (x y c : ℤ) → (x -ℤ y) ≤ℤ c → x ≤ℤ (c +ℤ y)
+by-sum x y c h = →le x (c +ℤ y) (omega (arith, le→ h, sum x (negℤ y), sum c y, negated y))
+
+pub by-difference : (x y c : ℤ) → x ≤ℤ (c +ℤ y) → (x -ℤ y) ≤ℤ c
+by-difference x y c h = →le (x -ℤ y) c (omega (arith, le→ h, sum x (negℤ y), sum c y, negated y))
+
+-- Ranges of a sum, and a wider range.
+pub within-sum : {m n : ℕ} {x y : ℤ} → Within m x → Within n y → Within (m + n) (x +ℤ y)
+within-sum {x = x} {y = y} W U = record { above = omega (arith, sum x y); below = omega (arith, sum x y) }
+
+pub wider : {m n : ℕ} {z : ℤ} → Within m z → m ≤ n → Within n z
+wider W h = record { above = omega arith; below = omega arith }

@@ -1,0 +1,1 @@
+// Whole numbers: definitions and laws, no code.
