@@ -5,7 +5,7 @@ ghost use mathlib.Core.List.{[]};
 ghost use Prim.Native.Nat.{_-_, _≤_};
 ghost use lib.Dec.{eqb, leb, ltb};
 ghost use lib.ListN.{length};
-ghost use Rattle.basis.specs.Limits.{mostArguments};
+ghost use Rattle.basis.specs.Limits.{mostAtoms, mostLiterals, mostInput, mostPredicates, mostArguments};
 ghost use Rattle.basis.specs.Atoms.{noAtom};
 ghost use Rattle.lists.specs.Lists.{anyOf, allOf, upFrom};
 ghost use Rattle.lists.specs.Arrays.{exactly};
@@ -16,25 +16,24 @@ ghost use Rattle.calculus.specs.Class.{arityOf, properAtom, properLiteral, boun
 ghost use Rattle.calculus.specs.Admission.{clausesRefusal};
 ghost use Rattle.clauses.specs.Records.{clauseOf, packed, Counted};
 ghost use Rattle.admission.specs.Offered.{offeredArities, cleaned, offered, offeredTable, packedTable, tableFits, clauseAnswer, answered, tableAnswer};
+use basis::ABOVE_LIMIT;
 use basis::Atom;
+use basis::LACKS_BOUND;
 use basis::Literal;
+use basis::MOST_ARGUMENTS;
+use basis::MOST_ATOMS;
+use basis::MOST_C;
+use basis::MOST_CONSTANTS;
+use basis::MOST_INPUT;
+use basis::MOST_LITERALS;
+use basis::MOST_PREDICATES;
+use basis::OCCURS_NOWHERE;
+use basis::OUT_OF_RANGE;
 use clauses::Clause;
 use clauses::counted;
 use clauses::in_atom;
 use clauses::in_literal;
 use clauses::no_clause;
-
-// "a count or arity above its limit"
-const ABOVE_LIMIT: u8 = 3;
-
-// "a clause number, sign or constant c out of its range, or both places 0"
-const OUT_OF_RANGE: u8 = 4;
-
-// "a clause variable occurs nowhere"
-const OCCURS_NOWHERE: u8 = 5;
-
-// "a variable in a difference lacks a bound"
-const LACKS_BOUND: u8 = 6;
 
 // The refusal's number, 0 for none, and the clause as it was read; a refused one is handed back blank.
 pub struct ClauseAnswer {
@@ -46,25 +45,25 @@ pub struct ClauseAnswer {
 pub struct TableAnswer {
     pub number: u8,
     pub place: u8,
-    pub clauses: [Clause; 48],
+    pub clauses: [Clause; MOST_INPUT],
 }
 
 // That the clause's arrays are whole
 fn clause_atoms(c: Clause) -> usize
-    ensures { λ r. ⌜ (r ≡ c .atomcount) × (length (c .atoms) ≡ 24) ⌝ }
+    ensures { λ r. ⌜ (r ≡ c .atomcount) × (length (c .atoms) ≡ mostAtoms) ⌝ }
 {
     c.atomcount as usize
 }
 
 fn clause_literals(c: Clause) -> usize
-    ensures { λ r. ⌜ (r ≡ c .literalcount) × (length (c .literals) ≡ 8) ⌝ }
+    ensures { λ r. ⌜ (r ≡ c .literalcount) × (length (c .literals) ≡ mostLiterals) ⌝ }
 {
     c.literalcount as usize
 }
 
 // ---- reading a record
 
-fn arity_of(predicates: u8, arities: [u8; 8], p: u8) -> u8
+fn arity_of(predicates: u8, arities: [u8; MOST_PREDICATES], p: u8) -> u8
     ensures { λ r. ⌜ r ≡ arityOf (offeredArities predicates arities) p ⌝ }
 {
     let k = slot_of(p);
@@ -72,7 +71,7 @@ fn arity_of(predicates: u8, arities: [u8; 8], p: u8) -> u8
         return 0;
     }
     let i = k as usize;
-    if i < 8 {
+    if i < MOST_PREDICATES {
         return arities[i];
     }
     0
@@ -98,7 +97,7 @@ fn argument(k: u8, n: u8, x: u8) -> u8
     0
 }
 
-fn clean_literal(predicates: u8, arities: [u8; 8], l: Literal) -> Literal
+fn clean_literal(predicates: u8, arities: [u8; MOST_PREDICATES], l: Literal) -> Literal
     ensures { λ r. ⌜ r ≡ cleaned (offeredArities predicates arities) l ⌝ }
 {
     let n = arity_of(predicates, arities, l.predicate);
@@ -112,9 +111,13 @@ fn clean_literal(predicates: u8, arities: [u8; 8], l: Literal) -> Literal
     r
 }
 
-fn clean_literals(predicates: u8, arities: [u8; 8], c: Clause) -> [Literal; 8]
-    requires { ⌜ c .literalcount ≤ 8 ⌝ }
-    ensures { λ r. ⌜ r ≡ exactly 8 noLiteral (offered (offeredArities predicates arities) c .literals) ⌝ }
+fn clean_literals(
+    predicates: u8,
+    arities: [u8; MOST_PREDICATES],
+    c: Clause,
+) -> [Literal; MOST_LITERALS]
+    requires { ⌜ c .literalcount ≤ mostLiterals ⌝ }
+    ensures { λ r. ⌜ r ≡ exactly mostLiterals noLiteral (offered (offeredArities predicates arities) c .literals) ⌝ }
 {
     let n = clause_literals(c);
     let blank = Literal {
@@ -124,7 +127,7 @@ fn clean_literals(predicates: u8, arities: [u8; 8], c: Clause) -> [Literal; 8]
         y: 0,
         z: 0,
     };
-    let mut out = [blank; 8];
+    let mut out = [blank; MOST_LITERALS];
     let mut j: usize = 0;
     while j < n {
         let l = c.literals[j];
@@ -135,13 +138,13 @@ fn clean_literals(predicates: u8, arities: [u8; 8], c: Clause) -> [Literal; 8]
     out
 }
 
-fn clean_atoms(c: Clause) -> [Atom; 24]
-    requires { ⌜ c .atomcount ≤ 24 ⌝ }
-    ensures { λ r. ⌜ r ≡ exactly 24 noAtom (exactly (c .atomcount) noAtom (c .atoms)) ⌝ }
+fn clean_atoms(c: Clause) -> [Atom; MOST_ATOMS]
+    requires { ⌜ c .atomcount ≤ mostAtoms ⌝ }
+    ensures { λ r. ⌜ r ≡ exactly mostAtoms noAtom (exactly (c .atomcount) noAtom (c .atoms)) ⌝ }
 {
     let n = clause_atoms(c);
     let blank = Atom { p: 0, q: 0, c: 0 };
-    let mut out = [blank; 24];
+    let mut out = [blank; MOST_ATOMS];
     let mut j: usize = 0;
     while j < n {
         let a = c.atoms[j];
@@ -151,7 +154,7 @@ fn clean_atoms(c: Clause) -> [Atom; 24]
     out
 }
 
-fn clean(predicates: u8, arities: [u8; 8], c: Clause) -> Clause
+fn clean(predicates: u8, arities: [u8; MOST_PREDICATES], c: Clause) -> Clause
     requires { ⌜ Counted c ⌝ }
     ensures { λ r. ⌜ r ≡ packed (offered (offeredArities predicates arities) c) ⌝ }
 {
@@ -181,14 +184,14 @@ fn proper_atom(v: u8, a: Atom) -> bool
     if s < 1 {
         return false;
     }
-    if a.c < -1000000 {
+    if a.c < -MOST_C {
         return false;
     }
-    a.c <= 1000000
+    a.c <= MOST_C
 }
 
 fn proper_atoms(c: Clause) -> bool
-    requires { ⌜ c .atomcount ≤ 24 ⌝ }
+    requires { ⌜ c .atomcount ≤ mostAtoms ⌝ }
     ensures { λ r. ⌜ r ≡ allOf (properAtom (c .variables)) (clauseOf c .atoms) ⌝ }
 {
     let n = clause_atoms(c);
@@ -216,7 +219,7 @@ fn proper_argument(k: u8, n: u8, v: u8, x: u8) -> bool
     x == 0
 }
 
-fn proper_literal(predicates: u8, arities: [u8; 8], v: u8, l: Literal) -> bool
+fn proper_literal(predicates: u8, arities: [u8; MOST_PREDICATES], v: u8, l: Literal) -> bool
     ensures { λ r. ⌜ r ≡ properLiteral (offeredArities predicates arities) v l ⌝ }
 {
     if l.predicate < 1 {
@@ -235,8 +238,8 @@ fn proper_literal(predicates: u8, arities: [u8; 8], v: u8, l: Literal) -> bool
     proper_argument(2, n, v, l.z)
 }
 
-fn proper_literals(predicates: u8, arities: [u8; 8], c: Clause) -> bool
-    requires { ⌜ c .literalcount ≤ 8 ⌝ }
+fn proper_literals(predicates: u8, arities: [u8; MOST_PREDICATES], c: Clause) -> bool
+    requires { ⌜ c .literalcount ≤ mostLiterals ⌝ }
     ensures { λ r. ⌜ r ≡ allOf (properLiteral (offeredArities predicates arities) (c .variables)) (clauseOf c .literals) ⌝ }
 {
     let n = clause_literals(c);
@@ -254,7 +257,7 @@ fn proper_literals(predicates: u8, arities: [u8; 8], c: Clause) -> bool
 // ---- refusal 5
 
 fn in_atoms(c: Clause, x: u8) -> bool
-    requires { ⌜ c .atomcount ≤ 24 ⌝ }
+    requires { ⌜ c .atomcount ≤ mostAtoms ⌝ }
     ensures { λ r. ⌜ r ≡ anyOf (λ a. eqb x (a .p) || eqb x (a .q)) (clauseOf c .atoms) ⌝ }
 {
     let n = clause_atoms(c);
@@ -270,7 +273,7 @@ fn in_atoms(c: Clause, x: u8) -> bool
 }
 
 fn in_literals(c: Clause, x: u8) -> bool
-    requires { ⌜ c .literalcount ≤ 8 ⌝ }
+    requires { ⌜ c .literalcount ≤ mostLiterals ⌝ }
     ensures { λ r. ⌜ r ≡ anyOf (λ m. anyOf (eqb x) (arguments m)) (clauseOf c .literals) ⌝ }
 {
     let n = clause_literals(c);
@@ -324,7 +327,7 @@ fn is_between(a: Atom, p: u8, q: u8) -> bool
 
 // Whether the clause has an atom with these places
 fn has_between(c: Clause, p: u8, q: u8) -> bool
-    requires { ⌜ c .atomcount ≤ 24 ⌝ }
+    requires { ⌜ c .atomcount ≤ mostAtoms ⌝ }
     ensures { λ r. ⌜ r ≡ anyOf (λ a. eqb (a .p) p && eqb (a .q) q) (clauseOf c .atoms) ⌝ }
 {
     let n = clause_atoms(c);
@@ -341,7 +344,7 @@ fn has_between(c: Clause, p: u8, q: u8) -> bool
 
 // "an atom bounding it above (x, 0, c) and one bounding it below (0, x, c)"
 fn is_bounded(c: Clause, x: u8) -> bool
-    requires { ⌜ c .atomcount ≤ 24 ⌝ }
+    requires { ⌜ c .atomcount ≤ mostAtoms ⌝ }
     ensures { λ r. ⌜ r ≡ bounded (clauseOf c .atoms) x ⌝ }
 {
     if !has_between(c, x, 0) {
@@ -352,7 +355,7 @@ fn is_bounded(c: Clause, x: u8) -> bool
 
 // Where the atom has two variables, both are bounded.
 fn difference_bounded(c: Clause, a: Atom) -> bool
-    requires { ⌜ c .atomcount ≤ 24 ⌝ }
+    requires { ⌜ c .atomcount ≤ mostAtoms ⌝ }
     ensures { λ r. ⌜ r ≡ (eqb (a .p) 0 || (eqb (a .q) 0 || (bounded (clauseOf c .atoms) (a .p) && bounded (clauseOf c .atoms) (a .q)))) ⌝ }
 {
     if a.p == 0 {
@@ -368,7 +371,7 @@ fn difference_bounded(c: Clause, a: Atom) -> bool
 }
 
 fn differences_bounded(c: Clause) -> bool
-    requires { ⌜ c .atomcount ≤ 24 ⌝ }
+    requires { ⌜ c .atomcount ≤ mostAtoms ⌝ }
     ensures { λ r. ⌜ r ≡ differencesBounded (clauseOf c .atoms) ⌝ }
 {
     let n = clause_atoms(c);
@@ -386,7 +389,7 @@ fn differences_bounded(c: Clause) -> bool
 // ---- one clause
 
 // The refusal of a clause as it was read; its counts are within the limits already.
-fn refusal_of(predicates: u8, arities: [u8; 8], c: Clause) -> u8
+fn refusal_of(predicates: u8, arities: [u8; MOST_PREDICATES], c: Clause) -> u8
     requires { ⌜ Counted c ⌝ }
     ensures { λ r. ⌜ r ≡ clauseRefusal (offeredArities predicates arities) (clauseOf c) ⌝ }
 {
@@ -416,7 +419,7 @@ fn refused_clause(number: u8) -> ClauseAnswer
 }
 
 // A clause record judged against predicates and arities
-pub fn admit_clause(predicates: u8, arities: [u8; 8], c: Clause) -> ClauseAnswer
+pub fn admit_clause(predicates: u8, arities: [u8; MOST_PREDICATES], c: Clause) -> ClauseAnswer
     ensures { λ r. ⌜ r ≡ clauseAnswer (offeredArities predicates arities) c ⌝ }
 {
     if !counted(c) {
@@ -435,14 +438,14 @@ pub fn admit_clause(predicates: u8, arities: [u8; 8], c: Clause) -> ClauseAnswer
 
 // ---- a table of clauses
 
-fn small_arities(predicates: u8, arities: [u8; 8]) -> bool
-    requires { ⌜ predicates ≤ 8 ⌝ }
+fn small_arities(predicates: u8, arities: [u8; MOST_PREDICATES]) -> bool
+    requires { ⌜ predicates ≤ mostPredicates ⌝ }
     ensures { λ r. ⌜ r ≡ allOf (λ n. leb n mostArguments) (offeredArities predicates arities) ⌝ }
 {
     let n = predicates as usize;
     let mut j: usize = 0;
     while j < n {
-        if 3 < arities[j] {
+        if MOST_ARGUMENTS < arities[j] as usize {
             return false;
         }
         j += 1;
@@ -450,26 +453,26 @@ fn small_arities(predicates: u8, arities: [u8; 8]) -> bool
     true
 }
 
-fn counts_fit(constants: u8, predicates: u8, arities: [u8; 8], count: u8) -> bool
+fn counts_fit(constants: u8, predicates: u8, arities: [u8; MOST_PREDICATES], count: u8) -> bool
     ensures { λ r. ⌜ r ≡ tableFits constants predicates arities count ⌝ }
 {
-    if 16 < constants {
+    if MOST_CONSTANTS < constants as usize {
         return false;
     }
-    if 8 < predicates {
+    if MOST_PREDICATES < predicates as usize {
         return false;
     }
     if !small_arities(predicates, arities) {
         return false;
     }
-    count <= 48
+    count as usize <= MOST_INPUT
 }
 
-fn no_table() -> [Clause; 48]
+fn no_table() -> [Clause; MOST_INPUT]
     ensures { λ r. ⌜ r ≡ packedTable [] ⌝ }
 {
     let c = no_clause();
-    [c; 48]
+    [c; MOST_INPUT]
 }
 
 fn refused_table(number: u8, place: u8) -> TableAnswer
@@ -484,8 +487,13 @@ fn refused_table(number: u8, place: u8) -> TableAnswer
 }
 
 // The clauses one after the other, up to the first that is refused
-fn admit_clauses(predicates: u8, arities: [u8; 8], count: u8, clauses: [Clause; 48]) -> TableAnswer
-    requires { ⌜ count ≤ 48 ⌝ }
+fn admit_clauses(
+    predicates: u8,
+    arities: [u8; MOST_PREDICATES],
+    count: u8,
+    clauses: [Clause; MOST_INPUT],
+) -> TableAnswer
+    requires { ⌜ count ≤ mostInput ⌝ }
     ensures { λ r. ⌜ r ≡ answered (clausesRefusal (offeredArities predicates arities) 1 (offeredTable (offeredArities predicates arities) count clauses)) (offeredTable (offeredArities predicates arities) count clauses) ⌝ }
 {
     let n = count as usize;
@@ -512,9 +520,9 @@ fn admit_clauses(predicates: u8, arities: [u8; 8], count: u8, clauses: [Clause; 
 pub fn admit(
     constants: u8,
     predicates: u8,
-    arities: [u8; 8],
+    arities: [u8; MOST_PREDICATES],
     count: u8,
-    clauses: [Clause; 48],
+    clauses: [Clause; MOST_INPUT],
 ) -> TableAnswer
     ensures { λ r. ⌜ r ≡ tableAnswer constants (offeredArities predicates arities) (offeredTable (offeredArities predicates arities) count clauses) ⌝ }
 {

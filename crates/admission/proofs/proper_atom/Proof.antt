@@ -30,6 +30,9 @@ add-s c = search needs
 returns-3 : tie.Need-returns-3
 returns-3 c = simp (le-leb _ _ (c .before .before .before .before .before .if1 .left), le-leb _ _ (c .before .before .before .if2 .left), lt-leb _ _ (c .if3 .taken))
 
+sub-if4 : tie.Need-sub-if4
+sub-if4 c = search needs
+
 returns-4 : tie.Need-returns-4
 returns-4 c =
     let a = c .before .before .before .before .before .before .before .before .before .before .args in
@@ -48,4 +51,5 @@ returns-5 c =
 
 pub proper-atom-spec : {M : Type 1} → statement M
 proper-atom-spec =
-    tie.close (tie.spec returns returns-2 cast-s cast-s-2 add-s returns-3 returns-4 returns-5)
+    tie.close
+    (tie.spec returns returns-2 cast-s cast-s-2 add-s returns-3 sub-if4 returns-4 returns-5)

@@ -27,6 +27,9 @@ loop-holds c = (omega arith, search needs, refl)
 array-read-if1 : tie.Need-array-read-if1 Inv-loop μ-loop
 array-read-if1 c = search needs
 
+cast-if1 : tie.Need-cast-if1 Inv-loop μ-loop
+cast-if1 c = search needs
+
 returns : tie.Need-returns Inv-loop μ-loop
 returns c =
     let a = c .before .before .before .args in
@@ -59,6 +62,7 @@ small-arities-spec =
     μ-loop
     loop-holds
     array-read-if1
+    cast-if1
     returns
     add-j
     loop-less
