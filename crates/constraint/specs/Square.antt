@@ -5,7 +5,6 @@ use mathlib.Core.Logic.{_↔_}
 use Prim.Native.Nat.{ℕ, zero, suc, _≤_, _<_}
 use lib.ListN.{getD}
 use lib.IntN.{ℤ, pos, negsuc, _+ℤ_}
-use lib.Signed.{_≤ℤ_}
 use mir.Syntax.{w64}
 use mir.Val.{SFits}
 use Rattle.basis.specs.declared.Atom.{Atom}
@@ -47,12 +46,6 @@ pub record Sound (t : List (List ℤ)) : Type 0 where
   pub closed : Closed wholeBounds places (entry t)
   pub small : (i j : ℕ) → i < places → j < places → Within far (entry t i j)
 
--- A row of a sound square and the row of q: small bounds, and none above the one that goes through q.
-pub record Rows (row via : List ℤ) (q : ℕ) : Type 0 where
-  pub row-small : (j : ℕ) → j < places → Within far (at row j)
-  pub via-small : (j : ℕ) → j < places → Within far (at via j)
-  pub through : (j : ℕ) → j < places → at row j ≤ℤ (at row q +ℤ at via j)
-
 -- The square says of values exactly what Q says.
 pub record Stands (Q : (ℕ → ℤ) → Type 0) (t : List (List ℤ)) : Type 0 where
   pub sound : Sound t
@@ -79,13 +72,14 @@ abbrev pub FirstImproper : ℕ → ℕ → List Atom → ℕ → Type 0
 FirstImproper constants count atoms zero = (j : ℕ) → j < count → Proper constants (atomAt atoms j)
 FirstImproper constants count atoms (suc k) = (k < count) × ((j : ℕ) → j < k → Proper constants (atomAt atoms j)) × ¬ Proper constants (atomAt atoms k)
 
--- No sum of bounds overflows: of a sound square and a bound put in, each sum that is formed lies from -35,000,035 to 35,000,035,
--- so the machine holds it. Proved in proofs/Sums.antt; every square of the test is sound.
-pub record Sums (t : List (List ℤ)) (c : ℤ) (i p q j : ℕ) : Type 0 where
-  pub chain : Within mostChain (entry t i p +ℤ c)
-  pub whole-chain : Within mostSum ((entry t i p +ℤ c) +ℤ entry t q j)
-  pub chain-fits : SFits w64 (entry t i p +ℤ c)
-  pub whole-chain-fits : SFits w64 ((entry t i p +ℤ c) +ℤ entry t q j)
-
-abbrev pub NoOverflow : Type 0
-NoOverflow = (t : List (List ℤ)) → Sound t → (c : ℤ) → Within mostBound c → (i p q j : ℕ) → i < places → p < places → q < places → j < places → Sums t c i p q j
+-- No sum of bounds overflows: each sum that the test forms, of a sound square and a bound put in, lies from -35,000,035 to 35,000,035,
+-- and 64 bits hold it. Every square of the test is sound. Proved in proofs/Sums.antt.
+pub record NoOverflow : Type 0 where
+  -- The bound put in, after one of the square, ..
+  pub chain : (t : List (List ℤ)) (c : ℤ) → Sound t → Within mostBound c → (i p : ℕ) → i < places → p < places → Within mostChain (entry t i p +ℤ c)
+  -- .. and before another.
+  pub long-chain : (t : List (List ℤ)) (c : ℤ) → Sound t → Within mostBound c → (i p q j : ℕ) → i < places → p < places → q < places → j < places →
+      Within mostSum ((entry t i p +ℤ c) +ℤ entry t q j)
+  -- The chain that it closes.
+  pub round : (t : List (List ℤ)) (c : ℤ) → Sound t → Within mostBound c → (p q : ℕ) → p < places → q < places → Within mostChain (c +ℤ entry t q p)
+  pub held : (z : ℤ) → Within mostSum z → SFits w64 z
