@@ -13,6 +13,8 @@ pub const MOST_ARGUMENTS: usize = 3;
 
 pub const MOST_CONSTANTS: usize = 16;
 
+pub const MOST_ENTRIES: usize = 160;
+
 pub const MOST_TESTED: usize = 184;
 
 pub const MOST_C: i32 = 1000000;
