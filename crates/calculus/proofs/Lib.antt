@@ -6,6 +6,7 @@ pub mod Derived
 pub mod OnTrail
 pub mod Cuts
 pub mod Answers
+pub mod Reasons
 pub mod Conditions
 pub mod Admitting
 pub mod Trails
@@ -13,6 +14,8 @@ pub mod Class
 pub mod Levels
 pub mod Invariant
 pub mod Demands
+pub mod Merges
 pub mod Certificates
 pub mod Examples
 pub mod FalseTools
+pub mod Speed

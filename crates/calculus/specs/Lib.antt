@@ -10,10 +10,12 @@ pub mod Rules
 pub mod OnTrail
 pub mod Cuts
 pub mod Conditions
+pub mod Reasons
 pub mod Answers
 pub mod Admitting
 pub mod Truth
 pub mod Runs
+pub mod Merges
 pub mod Demands
 pub mod Examples
 pub mod FalseTools

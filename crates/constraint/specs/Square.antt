@@ -5,7 +5,6 @@ use mathlib.Core.Logic.{_↔_}
 use Prim.Native.Nat.{ℕ, zero, suc, _≤_, _<_}
 use lib.ListN.{getD}
 use lib.IntN.{ℤ, pos, negsuc, _+ℤ_}
-use lib.Signed.{_≤ℤ_}
 use mir.Syntax.{w64}
 use mir.Val.{SFits}
 use Rattle.basis.specs.declared.Atom.{Atom}
@@ -46,12 +45,6 @@ entry t i j = at (getD t i []) j
 pub record Sound (t : List (List ℤ)) : Type 0 where
   pub closed : Closed wholeBounds places (entry t)
   pub small : (i j : ℕ) → i < places → j < places → Within far (entry t i j)
-
--- A row of a sound square and the row of q: small bounds, and none above the one that goes through q.
-pub record Rows (row via : List ℤ) (q : ℕ) : Type 0 where
-  pub row-small : (j : ℕ) → j < places → Within far (at row j)
-  pub via-small : (j : ℕ) → j < places → Within far (at via j)
-  pub through : (j : ℕ) → j < places → at row j ≤ℤ (at row q +ℤ at via j)
 
 -- The square says of values exactly what Q says.
 pub record Stands (Q : (ℕ → ℤ) → Type 0) (t : List (List ℤ)) : Type 0 where

@@ -4,19 +4,30 @@ use mathlib.Core.List.{List, [], List·Memᴰ}
 use mathlib.Core.Bool.{Bool, true, false, _&&_, _||_, cond}
 use Prim.Native.Nat.{ℕ, zero, _≤_}
 use lib.Dec.{leb}
-use lib.ListN.{length}
+use lib.ListN.{length, take}
 use Rattle.basis.specs.declared.Atom.{Atom}
 use Rattle.basis.specs.declared.Literal.{Literal}
-use Rattle.basis.specs.Limits.{mostConstants, mostEntries, mostLiterals}
+use Rattle.basis.specs.Limits.{mostConstants, mostEntries, mostLiterals, mostTested}
 use Rattle.basis.specs.Atoms.{Proper}
 use Rattle.lists.specs.Lists.{allOf}
 use Rattle.lists.specs.Arrays.{exactly}
-use Rattle.calculus.specs.Clauses.{sameLiteral, ground, noLiteral}
-use Rattle.calculus.specs.Trails.{Trail, Entry, foreground, background, isFalse}
+use Rattle.calculus.specs.Clauses.{sameLiteral, complement, ground, noLiteral}
+use Rattle.calculus.specs.Trails.{Trail, Entry, foreground, background, isLiteral, isFalse}
 use Rattle.calculus.specs.Rules.{firstFailing}
 use Rattle.trail.specs.declared.Grown.{Grown}
 use Rattle.trail.specs.declared.Instances.{Instances}
+use Rattle.trail.specs.declared.Tested.{Tested}
 use Rattle.trail.specs.Entries.{Stored}
+
+-- r is the count n of an array with room for `most`, and no more than that.
+pub record Counts {A : Type 0} (l : List A) (most n r : ℕ) : Type 0 where
+  pub long : length l ≡ most
+  pub few : r ≤ most
+  pub same : take r l ≡ take n l
+
+-- The entry is the literal or its complement.
+abbrev pub isAbout : Literal → Entry → Bool
+isAbout l e = isLiteral l e || isLiteral (complement l) e
 
 -- ---- refusal 12
 
@@ -34,6 +45,11 @@ firstNumber f ls = cond (allOf f ls) zero (firstFailing f ls)
 abbrev pub packedInstances : List Literal → Instances
 packedInstances ls = record { count = length ls; at = exactly mostLiterals noLiteral ls }
 
+-- The record of these ground literals, for which it has room
+pub record Listed (d : Instances) (ls : List Literal) : Type 0 where
+  pub few : length ls ≤ mostLiterals
+  pub packed : d ≡ packedInstances ls
+
 -- ---- what grows
 
 -- The trail t as it is stored where there is room for it; else no trail.
@@ -46,6 +62,12 @@ pub record Grew (g : Grown) (t : Trail) : Type 0 where
 abbrev pub isBackground : Entry → Bool
 isBackground (foreground l o) = false
 isBackground (background a) = true
+
+-- The atoms, at most so many, stand first in what is put to the test.
+pub record Gathers (t : Tested) (most : ℕ) (atoms : List Atom) : Type 0 where
+  pub long : length (t .atoms) ≡ mostTested
+  pub few : t .count ≤ most
+  pub says : take (t .count) (t .atoms) ≡ atoms
 
 -- The constraint test takes the atoms.
 pub record Testable (constants : ℕ) (atoms : List Atom) : Type 0 where

@@ -57,3 +57,18 @@ pub record Stored (es : List Entry) (n : ℕ) (t : Trail) : Type 0 where
 -- Taken for granted of an array and its length where entries are added or taken away
 abbrev pub Held : List Entry → ℕ → Type 0
 Held es n = Stored es n (trailOf es n)
+
+-- An entry's instance has at most 12 constants.
+abbrev pub Short : calculus.Entry → Type 0
+Short (background a) = Unit {0}
+Short (foreground l (propagated c n τ)) = length τ ≤ mostVariables
+Short (foreground l (decided c n b τ)) = length τ ≤ mostVariables
+
+abbrev pub AllShort : Trail → Type 0
+AllShort [] = Unit {0}
+AllShort (e ∷ t) = Short e × AllShort t
+
+-- e is the record of the entry x.
+pub record Recorded (e : Entry) (x : calculus.Entry) : Type 0 where
+  pub is : e ≡ packedEntry x
+  pub short : Short x

@@ -4,7 +4,7 @@
 ghost use mathlib.Core.Path.{_≡_};
 ghost use mathlib.Core.Logic.{_↔_};
 ghost use mathlib.Core.List.{[], _∷_, _++_};
-ghost use mathlib.Core.Bool.{false, _&&_, _||_, cond};
+ghost use mathlib.Core.Bool.{false, _&&_, cond};
 ghost use Prim.Native.Nat.{suc, _-_, _≤_, _<_};
 ghost use lib.Dec.{T};
 ghost use lib.ListN.{length, getD, take};
@@ -19,10 +19,15 @@ ghost use Rattle.calculus.specs.Trails.{onTrail, atomOnTrail, isLiteral, isAtom
 ghost use Rattle.calculus.specs.Trails as trails;
 ghost use Rattle.calculus.specs.Rules.{otherInstances, backLevel, propagatedTrail, withoutLast};
 ghost use Rattle.clauses.specs.Records.{clauseOf, instancedOf};
-ghost use Rattle.trail.specs.Entries.{noEntry, entryOf, packedEntry, trailOf, packedTrail, Stored, Held};
-ghost use Rattle.trail.specs.Answers.{passes, firstNumber, packedInstances, Grew, isBackground, Testable};
+ghost use Rattle.trail.specs.Entries.{noEntry, entryOf, trailOf, packedTrail, Stored, Held, Recorded};
+ghost use Rattle.trail.specs.Answers.{Counts, isAbout, passes, firstNumber, Listed, Grew, isBackground, Gathers, Testable};
 use basis::Atom;
 use basis::Literal;
+use basis::MOST_ATOMS;
+use basis::MOST_ENTRIES;
+use basis::MOST_LITERALS;
+use basis::MOST_TESTED;
+use basis::MOST_VARIABLES;
 use clauses::Clause;
 use clauses::Instanced;
 use clauses::complement;
@@ -51,32 +56,32 @@ pub struct Entry {
     pub number: u8,
     pub sign: bool,
     pub count: u8,
-    pub instance: [u8; 12],
+    pub instance: [u8; MOST_VARIABLES],
 }
 
 // A trail that has grown; where `fits` is false there was no room, and it is empty.
 pub struct Grown {
     pub fits: bool,
     pub length: u8,
-    pub trail: [Entry; 160],
+    pub trail: [Entry; MOST_ENTRIES],
 }
 
 // The kept part of a trail
 pub struct Part {
     pub length: u8,
-    pub trail: [Entry; 160],
+    pub trail: [Entry; MOST_ENTRIES],
 }
 
 // Ground literals, blank past their count
 pub struct Instances {
     pub count: u8,
-    pub at: [Literal; 8],
+    pub at: [Literal; MOST_LITERALS],
 }
 
 // The atoms put to the constraint test: the first `count`
 struct Tested {
     count: usize,
-    atoms: [Atom; 184],
+    atoms: [Atom; MOST_TESTED],
 }
 
 // The blank entry
@@ -85,7 +90,7 @@ pub fn no_entry() -> Entry
 {
     let atom = no_atom();
     let literal = no_literal();
-    let instance = [0u8; 12];
+    let instance = [0u8; MOST_VARIABLES];
     let kind = Kind::Background;
     Entry {
         kind: kind,
@@ -100,11 +105,11 @@ pub fn no_entry() -> Entry
 }
 
 // The empty trail
-pub fn empty_trail() -> [Entry; 160]
+pub fn empty_trail() -> [Entry; MOST_ENTRIES]
     ensures { λ r. ⌜ r ≡ packedTrail [] ⌝ }
 {
     let e = no_entry();
-    [e; 160]
+    [e; MOST_ENTRIES]
 }
 
 // ---- one entry
@@ -146,7 +151,7 @@ pub fn is_decision(e: Entry) -> bool
 
 // Whether the entry is the literal or its complement
 fn is_about(e: Entry, l: Literal) -> bool
-    ensures { λ r. ⌜ r ≡ (isLiteral l (entryOf e) || isLiteral (calculus.complement l) (entryOf e)) ⌝ }
+    ensures { λ r. ⌜ r ≡ isAbout l (entryOf e) ⌝ }
 {
     if is_literal(e, l) {
         return true;
@@ -157,7 +162,7 @@ fn is_about(e: Entry, l: Literal) -> bool
 
 // ---- what is on the trail
 
-pub fn on_trail(trail: [Entry; 160], length: u8, l: Literal) -> bool
+pub fn on_trail(trail: [Entry; MOST_ENTRIES], length: u8, l: Literal) -> bool
     requires { ⌜ length ≤ mostEntries ⌝ }
     ensures { λ r. ⌜ r ≡ onTrail l (trailOf trail length) ⌝ }
 {
@@ -173,7 +178,7 @@ pub fn on_trail(trail: [Entry; 160], length: u8, l: Literal) -> bool
     false
 }
 
-pub fn atom_on_trail(trail: [Entry; 160], length: u8, a: Atom) -> bool
+pub fn atom_on_trail(trail: [Entry; MOST_ENTRIES], length: u8, a: Atom) -> bool
     requires { ⌜ length ≤ mostEntries ⌝ }
     ensures { λ r. ⌜ r ≡ atomOnTrail a (trailOf trail length) ⌝ }
 {
@@ -190,7 +195,7 @@ pub fn atom_on_trail(trail: [Entry; 160], length: u8, a: Atom) -> bool
 }
 
 // "A literal is undefined if neither it nor its complement is on the trail."
-pub fn undefined(trail: [Entry; 160], length: u8, l: Literal) -> bool
+pub fn undefined(trail: [Entry; MOST_ENTRIES], length: u8, l: Literal) -> bool
     requires { ⌜ length ≤ mostEntries ⌝ }
     ensures { λ r. ⌜ r ≡ trails.undefined (trailOf trail length) l ⌝ }
 {
@@ -210,22 +215,24 @@ pub fn undefined(trail: [Entry; 160], length: u8, l: Literal) -> bool
 
 // How many literals the record counts, and no more than it has room for
 fn literals_of(c: Clause) -> usize
-    ensures { λ r. ⌜ (length (c .literals) ≡ mostLiterals) × (r ≤ mostLiterals) × (take r (c .literals) ≡ clauseOf c .literals) ⌝ }
+    ensures { λ r. ⌜ Counts (c .literals) mostLiterals (c .literalcount) r ⌝ }
 {
-    if c.literalcount < 8 {
-        return c.literalcount as usize;
+    let n = c.literalcount as usize;
+    if n < MOST_LITERALS {
+        return n;
     }
-    8
+    MOST_LITERALS
 }
 
 // How many atoms the record counts, and no more than it has room for
 fn atoms_of(c: Clause) -> usize
-    ensures { λ r. ⌜ (length (c .atoms) ≡ mostAtoms) × (r ≤ mostAtoms) × (take r (c .atoms) ≡ clauseOf c .atoms) ⌝ }
+    ensures { λ r. ⌜ Counts (c .atoms) mostAtoms (c .atomcount) r ⌝ }
 {
-    if c.atomcount < 24 {
-        return c.atomcount as usize;
+    let n = c.atomcount as usize;
+    if n < MOST_ATOMS {
+        return n;
     }
-    24
+    MOST_ATOMS
 }
 
 // The place of a number, from 0
@@ -239,7 +246,7 @@ fn place_of(l: u8) -> usize
 }
 
 // The instance of the literal with number l; that of the blank one where there is no such literal
-pub fn literal_instance(c: Clause, l: u8, instance: [u8; 12], count: u8) -> Literal
+pub fn literal_instance(c: Clause, l: u8, instance: [u8; MOST_VARIABLES], count: u8) -> Literal
     ensures { λ r. ⌜ r ≡ calculus.ground (take count instance) (getD (clauseOf c .literals) (l - 1) noLiteral) ⌝ }
 {
     let n = literals_of(c);
@@ -267,10 +274,10 @@ fn is_own(others: bool, g: Literal, own: Literal) -> bool
 // The number, from 1, of the first literal that must be false and is not; 0 where there is none. All must be false, or, where `others`,
 // those with another instance than `own`.
 pub fn first_not_false(
-    trail: [Entry; 160],
+    trail: [Entry; MOST_ENTRIES],
     length: u8,
     clause: Clause,
-    instance: [u8; 12],
+    instance: [u8; MOST_VARIABLES],
     count: u8,
     others: bool,
     own: Literal,
@@ -329,7 +336,7 @@ fn either(first: bool, a: u8, b: u8) -> u8
 }
 
 // "The level of a trail literal, shared by its complement, is the number of decisions up to and including it."
-pub fn level_of(trail: [Entry; 160], length: u8, l: Literal) -> u8
+pub fn level_of(trail: [Entry; MOST_ENTRIES], length: u8, l: Literal) -> u8
     requires { ⌜ length ≤ mostEntries ⌝ }
     ensures { λ r. ⌜ r ≡ levelOf l (trailOf trail length) ⌝ }
 {
@@ -349,7 +356,7 @@ pub fn level_of(trail: [Entry; 160], length: u8, l: Literal) -> u8
 
 // The instances of the conflict's literals but the one with number l: D
 pub fn other_instances(n: Instanced, l: u8) -> Instances
-    ensures { λ r. ⌜ r ≡ packedInstances (otherInstances (instancedOf n) l) ⌝ }
+    ensures { λ r. ⌜ Listed r (otherInstances (instancedOf n) l) ⌝ }
 {
     let clause = n.clause;
     let instance = n.instance;
@@ -357,7 +364,7 @@ pub fn other_instances(n: Instanced, l: u8) -> Instances
     let m = literals_of(clause);
     let i = place_of(l);
     let blank = no_literal();
-    let mut at = [blank; 8];
+    let mut at = [blank; MOST_LITERALS];
     let mut count = 0;
     let mut j = 0;
     while j < m {
@@ -374,16 +381,24 @@ pub fn other_instances(n: Instanced, l: u8) -> Instances
     }
 }
 
-// Whether the entry is one of the ground literals or the complement of one
-fn is_about_any(e: Entry, d: Instances) -> bool
-    ensures { λ r. ⌜ r ≡ anyOf (λ l. isLiteral l (entryOf e) || isLiteral (calculus.complement l) (entryOf e)) (take (d .count) (d .at)) ⌝ }
+// How many literals they count, and no more than there is room for
+fn instances_of(d: Instances) -> usize
+    ensures { λ r. ⌜ Counts (d .at) mostLiterals (d .count) r ⌝ }
 {
     let n = d.count as usize;
+    if n < MOST_LITERALS {
+        return n;
+    }
+    MOST_LITERALS
+}
+
+// Whether the entry is one of the ground literals or the complement of one
+fn is_about_any(e: Entry, d: Instances) -> bool
+    ensures { λ r. ⌜ r ≡ anyOf (λ l. isAbout l (entryOf e)) (take (d .count) (d .at)) ⌝ }
+{
+    let n = instances_of(d);
     let mut j = 0;
     while j < n {
-        if 8 <= j {
-            return false;
-        }
         let l = d.at[j];
         if is_about(e, l) {
             return true;
@@ -394,7 +409,7 @@ fn is_about_any(e: Entry, d: Instances) -> bool
 }
 
 // The largest of the literals' levels: that of the last entry that is about one of them
-pub fn largest_level(trail: [Entry; 160], length: u8, d: Instances) -> u8
+pub fn largest_level(trail: [Entry; MOST_ENTRIES], length: u8, d: Instances) -> u8
     requires { ⌜ length ≤ mostEntries ⌝ }
     ensures { λ r. ⌜ r ≡ largestLevel (trailOf trail length) (take (d .count) (d .at)) ⌝ }
 {
@@ -413,7 +428,7 @@ pub fn largest_level(trail: [Entry; 160], length: u8, d: Instances) -> u8
 }
 
 // "i is the largest level in D, 0 if D is empty."
-pub fn back_level(trail: [Entry; 160], length: u8, n: Instanced, l: u8) -> u8
+pub fn back_level(trail: [Entry; MOST_ENTRIES], length: u8, n: Instanced, l: u8) -> u8
     requires { ⌜ length ≤ mostEntries ⌝ }
     ensures { λ r. ⌜ r ≡ backLevel (instancedOf n) l (trailOf trail length) ⌝ }
 {
@@ -424,7 +439,7 @@ pub fn back_level(trail: [Entry; 160], length: u8, n: Instanced, l: u8) -> u8
 // ---- entries taken away
 
 // The trail without its last entry
-pub fn drop_last(trail: [Entry; 160], length: u8) -> [Entry; 160]
+pub fn drop_last(trail: [Entry; MOST_ENTRIES], length: u8) -> [Entry; MOST_ENTRIES]
     requires { ⌜ Held trail length ⌝ }
     ensures { λ r. ⌜ Stored r (length - 1) (withoutLast (trailOf trail length)) ⌝ }
 {
@@ -438,7 +453,7 @@ pub fn drop_last(trail: [Entry; 160], length: u8) -> [Entry; 160]
 }
 
 // How many entries stand before decision `level` + 1
-fn cut_length(trail: [Entry; 160], length: u8, level: u8) -> u8
+fn cut_length(trail: [Entry; MOST_ENTRIES], length: u8, level: u8) -> u8
     requires { ⌜ length ≤ mostEntries ⌝ }
     ensures { λ r. ⌜ (r ≤ length) × (trailOf trail r ≡ trails.cut level (trailOf trail length)) ⌝ }
 {
@@ -456,7 +471,7 @@ fn cut_length(trail: [Entry; 160], length: u8, level: u8) -> u8
 }
 
 // The first `kept` entries
-fn cut_to(trail: [Entry; 160], length: u8, kept: u8) -> [Entry; 160]
+fn cut_to(trail: [Entry; MOST_ENTRIES], length: u8, kept: u8) -> [Entry; MOST_ENTRIES]
     requires { ⌜ Held trail length × (kept ≤ length) ⌝ }
     ensures { λ r. ⌜ Stored r kept (trailOf trail kept) ⌝ }
 {
@@ -472,7 +487,7 @@ fn cut_to(trail: [Entry; 160], length: u8, kept: u8) -> [Entry; 160]
 }
 
 // "The trail is cut just before decision i + 1."
-pub fn cut(trail: [Entry; 160], length: u8, level: u8) -> Part
+pub fn cut(trail: [Entry; MOST_ENTRIES], length: u8, level: u8) -> Part
     requires { ⌜ Held trail length ⌝ }
     ensures { λ r. ⌜ Stored (r .trail) (r .length) (trails.cut level (trailOf trail length)) ⌝ }
 {
@@ -486,13 +501,24 @@ pub fn cut(trail: [Entry; 160], length: u8, level: u8) -> Part
 
 // ---- entries appended
 
-// The first `count` constants of an instance, blank from there on
-fn first_constants(instance: [u8; 12], count: u8) -> [u8; 12]
-    ensures { λ r. ⌜ r ≡ exactly mostVariables 0 (take count instance) ⌝ }
+// How many constants an instance counts, and no more than there is room for
+fn constants_of(instance: [u8; MOST_VARIABLES], count: u8) -> usize
+    ensures { λ r. ⌜ Counts instance mostVariables count r ⌝ }
 {
     let n = count as usize;
+    if n < MOST_VARIABLES {
+        return n;
+    }
+    MOST_VARIABLES
+}
+
+// The first `count` constants of an instance, blank from there on
+fn first_constants(instance: [u8; MOST_VARIABLES], count: u8) -> [u8; MOST_VARIABLES]
+    ensures { λ r. ⌜ r ≡ exactly mostVariables 0 (take count instance) ⌝ }
+{
+    let n = constants_of(instance, count);
     let mut out = instance;
-    let mut k = 12;
+    let mut k = MOST_VARIABLES;
     while n < k {
         k -= 1;
         out[k] = 0;
@@ -500,21 +526,11 @@ fn first_constants(instance: [u8; 12], count: u8) -> [u8; 12]
     out
 }
 
-// How many they are
-fn constants_of(instance: [u8; 12], count: u8) -> u8
-    ensures { λ r. ⌜ r ≡ length (take count instance) ⌝ }
-{
-    if count < 12 {
-        return count;
-    }
-    12
-}
-
 fn background_entry(a: Atom) -> Entry
-    ensures { λ r. ⌜ r ≡ packedEntry (background a) ⌝ }
+    ensures { λ r. ⌜ Recorded r (background a) ⌝ }
 {
     let literal = no_literal();
-    let instance = [0u8; 12];
+    let instance = [0u8; MOST_VARIABLES];
     let kind = Kind::Background;
     Entry {
         kind: kind,
@@ -528,8 +544,14 @@ fn background_entry(a: Atom) -> Entry
     }
 }
 
-fn propagated_entry(l: Literal, clause: u8, number: u8, instance: [u8; 12], count: u8) -> Entry
-    ensures { λ r. ⌜ r ≡ packedEntry (foreground l (propagated clause number (take count instance))) ⌝ }
+fn propagated_entry(
+    l: Literal,
+    clause: u8,
+    number: u8,
+    instance: [u8; MOST_VARIABLES],
+    count: u8,
+) -> Entry
+    ensures { λ r. ⌜ Recorded r (foreground l (propagated clause number (take count instance))) ⌝ }
 {
     let atom = no_atom();
     let constants = first_constants(instance, count);
@@ -542,7 +564,7 @@ fn propagated_entry(l: Literal, clause: u8, number: u8, instance: [u8; 12], coun
         clause: clause,
         number: number,
         sign: false,
-        count: n,
+        count: n as u8,
         instance: constants,
     }
 }
@@ -552,10 +574,10 @@ fn decided_entry(
     clause: u8,
     number: u8,
     sign: bool,
-    instance: [u8; 12],
+    instance: [u8; MOST_VARIABLES],
     count: u8,
 ) -> Entry
-    ensures { λ r. ⌜ r ≡ packedEntry (foreground l (decided clause number sign (take count instance))) ⌝ }
+    ensures { λ r. ⌜ Recorded r (foreground l (decided clause number sign (take count instance))) ⌝ }
 {
     let atom = no_atom();
     let constants = first_constants(instance, count);
@@ -568,7 +590,7 @@ fn decided_entry(
         clause: clause,
         number: number,
         sign: sign,
-        count: n,
+        count: n as u8,
         instance: constants,
     }
 }
@@ -587,23 +609,24 @@ fn no_room() -> Grown
 
 // The trail with a decision appended
 pub fn push_decided(
-    trail: [Entry; 160],
+    trail: [Entry; MOST_ENTRIES],
     length: u8,
     l: Literal,
     clause: u8,
     number: u8,
     sign: bool,
-    instance: [u8; 12],
+    instance: [u8; MOST_VARIABLES],
     count: u8,
 ) -> Grown
     requires { ⌜ Held trail length ⌝ }
     ensures { λ r. ⌜ Grew r (foreground l (decided clause number sign (take count instance)) ∷ trailOf trail length) ⌝ }
 {
-    if 160 <= length {
+    let n = length as usize;
+    if MOST_ENTRIES <= n {
         return no_room();
     }
     let mut out = trail;
-    out[length as usize] = decided_entry(l, clause, number, sign, instance, count);
+    out[n] = decided_entry(l, clause, number, sign, instance, count);
     Grown {
         fits: true,
         length: length + 1,
@@ -614,19 +637,19 @@ pub fn push_decided(
 // "Appended: L, then the atoms not yet on the trail, in clause order, each once." L is the literal with number l of the clause with number
 // `number`, which it keeps as its step.
 pub fn append_propagated(
-    trail: [Entry; 160],
+    trail: [Entry; MOST_ENTRIES],
     length: u8,
     clause: Clause,
     number: u8,
     l: u8,
-    instance: [u8; 12],
+    instance: [u8; MOST_VARIABLES],
     count: u8,
 ) -> Grown
     requires { ⌜ Held trail length ⌝ }
     ensures { λ r. ⌜ Grew r (propagatedTrail (clauseOf clause) (l - 1) (take count instance) (propagated number l (take count instance)) (trailOf trail length)) ⌝ }
 {
     let mut m = length as usize;
-    if 160 <= m {
+    if MOST_ENTRIES <= m {
         return no_room();
     }
     let n = atoms_of(clause);
@@ -647,7 +670,7 @@ pub fn append_propagated(
             }
             k += 1;
         }
-        if 160 <= m {
+        if MOST_ENTRIES <= m {
             return no_room();
         }
         out[m] = background_entry(a);
@@ -675,12 +698,12 @@ fn is_background(e: Entry) -> bool
 }
 
 // The atoms of the trail, that of the last entry first
-fn trail_atoms(trail: [Entry; 160], length: u8) -> Tested
+fn trail_atoms(trail: [Entry; MOST_ENTRIES], length: u8) -> Tested
     requires { ⌜ length ≤ mostEntries ⌝ }
-    ensures { λ r. ⌜ (r .count ≤ mostEntries) × (take (r .count) (r .atoms) ≡ atomsOf (trailOf trail length)) ⌝ }
+    ensures { λ r. ⌜ Gathers r mostEntries (atomsOf (trailOf trail length)) ⌝ }
 {
     let blank = no_atom();
-    let mut atoms = [blank; 184];
+    let mut atoms = [blank; MOST_TESTED];
     let mut m = 0;
     let mut k = length as usize;
     while 0 < k {
@@ -699,9 +722,9 @@ fn trail_atoms(trail: [Entry; 160], length: u8) -> Tested
 }
 
 // .. and then those of the clause's instance
-fn with_atoms(tested: Tested, clause: Clause, instance: [u8; 12], count: u8) -> Tested
+fn with_atoms(tested: Tested, clause: Clause, instance: [u8; MOST_VARIABLES], count: u8) -> Tested
     requires { ⌜ tested .count ≤ mostEntries ⌝ }
-    ensures { λ r. ⌜ (r .count ≤ mostTested) × (take (r .count) (r .atoms) ≡ take (tested .count) (tested .atoms) ++ groundAtoms (take count instance) (clauseOf clause .atoms)) ⌝ }
+    ensures { λ r. ⌜ Gathers r mostTested (take (tested .count) (tested .atoms) ++ groundAtoms (take count instance) (clauseOf clause .atoms)) ⌝ }
 {
     let n = atoms_of(clause);
     let mut atoms = tested.atoms;
@@ -722,10 +745,10 @@ fn with_atoms(tested: Tested, clause: Clause, instance: [u8; 12], count: u8) -> 
 // Whether trail atoms and the clause's atoms are such as the constraint test takes, and together possible
 pub fn possible(
     constants: u8,
-    trail: [Entry; 160],
+    trail: [Entry; MOST_ENTRIES],
     length: u8,
     clause: Clause,
-    instance: [u8; 12],
+    instance: [u8; MOST_VARIABLES],
     count: u8,
 ) -> bool
     requires { ⌜ length ≤ mostEntries ⌝ }
