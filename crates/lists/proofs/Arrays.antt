@@ -1,10 +1,10 @@
 -- Laws of a list held in an array, and of an array changed slot by slot.
-use mathlib.Core.Path.{_≡_, refl, _∙_, ap, ap₂}
-use mathlib.Core.List.{List, [], _∷_, _++_, map}
-use Prim.Native.Nat.{ℕ, zero, suc, _+_, _≤_, _<_}
-use native.Mathlib.Omega.{arith}
+use mathlib.Core.Path.{_≡_, ap, refl}
+use mathlib.Core.List.{List, [], _++_, _∷_, map}
+use Prim.Native.Nat.{_+_, _<_, _≤_, suc, zero, ℕ}
 use native.Mathlib.Numerals.{add-one}
-use lib.ListN.{length, getD, set, take, drop, replicate, List·getD-eq-default}
+use native.Mathlib.Omega.{arith}
+use lib.ListN.{drop, getD, length, replicate, set, take}
 use Rattle.lists.specs.Arrays.{exactly}
 
 module _ {A : Type 0} (d : A) where
