@@ -6,5 +6,5 @@ pub mod Members
 pub mod Meanings
 pub mod Counting
 pub mod Walk
-pub mod Arrays
 pub mod Walks
+pub mod Arrays

@@ -1,8 +1,8 @@
--- `merging::in_literal` meets its contract.
+-- `clauses::in_literal` meets its contract.
 -- What the search leaves follows from the tests passed and from what the calls ensure.
 use borrow.Author.Tests.{eq-eqb, ne-eqb}
-use Rattle.merging.proofs.in_literal.Statement.{statement}
-use Rattle.merging.proofs.in_literal.Tie as tie
+use Rattle.clauses.proofs.in_literal.Statement.{statement}
+use Rattle.clauses.proofs.in_literal.Tie as tie
 
 returns : tie.Need-returns
 returns c = simp (eq-eqb _ _ (c .if1 .taken))
