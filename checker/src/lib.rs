@@ -1,0 +1,16 @@
+//! An independent checker of SCL(T) run files, in plain Rust, written from document 01.
+//!
+//! The checker: [`clause`], [`constraint`], [`merge`], [`state`], [`step`], [`rules`] are the
+//! calculus, [`file`] and [`admission`] its two ways in, [`listing`] what is printed.
+
+pub mod admission;
+pub mod clause;
+pub mod constraint;
+pub mod file;
+pub mod limits;
+pub mod listing;
+pub mod merge;
+pub mod refusal;
+pub mod rules;
+pub mod state;
+pub mod step;
