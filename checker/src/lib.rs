@@ -2,14 +2,19 @@
 //!
 //! The checker: [`clause`], [`constraint`], [`merge`], [`state`], [`step`], [`rules`] are the
 //! calculus, [`file`] and [`admission`] its two ways in, [`listing`] what is printed.
+//!
+//! The tests of others: [`generate`] makes run files, [`coverage`] counts what they come to.
 
 pub mod admission;
 pub mod clause;
 pub mod constraint;
+pub mod coverage;
 pub mod file;
+pub mod generate;
 pub mod limits;
 pub mod listing;
 pub mod merge;
+pub mod random;
 pub mod refusal;
 pub mod rules;
 pub mod state;

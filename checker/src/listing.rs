@@ -1,6 +1,6 @@
 //! Running a file, the listing, and the final state for reviewers.
 
-use crate::clause::{Atom, Clause, Literal};
+use crate::clause::{Atom, Clause, Closure, Literal};
 use crate::file::{self, BadFile, RunFile};
 use crate::refusal::Refusal;
 use crate::state::{Entry, State};
@@ -50,18 +50,23 @@ pub fn try_steps(mut state: State, steps: &[Step]) -> Run {
     Run { tried, state }
 }
 
-impl Run {
+impl Verdict {
     /// "Last line: `refuted` if the conflict has no literals, else `stopped` if a step was refused,
     /// else `open`."
-    pub fn verdict(&self) -> Verdict {
-        let refuted = self.state.conflict.as_ref().is_some_and(|conflict| conflict.is_refutation());
-        if refuted {
+    pub fn of(state: &State, refused: bool) -> Verdict {
+        if state.conflict.as_ref().is_some_and(Closure::is_refutation) {
             Verdict::Refuted
-        } else if self.tried.last().is_some_and(|tried| tried.answer.is_err()) {
+        } else if refused {
             Verdict::Stopped
         } else {
             Verdict::Open
         }
+    }
+}
+
+impl Run {
+    pub fn verdict(&self) -> Verdict {
+        Verdict::of(&self.state, self.tried.last().is_some_and(|tried| tried.answer.is_err()))
     }
 
     /// "One line per step tried: step number, rule name in small letters, trail length, k; or number,

@@ -9,6 +9,18 @@ use crate::refusal::{demand, Refusal};
 use crate::state::{Entry, Origin, State};
 use crate::step::Step;
 
+/// The answers each rule can give, 0 for accepted. 17 can't happen.
+pub const ANSWERS: [(u8, &[u8]); 8] = [
+    (1, &[0, 9, 10, 11, 12, 13, 18]),
+    (2, &[0, 9, 10, 11, 18]),
+    (3, &[0, 9, 10, 12, 13]),
+    (4, &[0, 9, 10, 14, 15, 18]),
+    (5, &[0, 9, 10, 15]),
+    (6, &[0, 9, 14, 15]),
+    (7, &[0, 9, 10, 15, 16, 18]),
+    (8, &[0, 9, 10, 18]),
+];
+
 /// What an accepted step changes in the state.
 #[derive(Clone, Debug, PartialEq, Eq)]
 pub enum Change {
@@ -53,7 +65,8 @@ impl State {
         }
     }
 
-    fn apply(&mut self, change: Change) {
+    /// Makes a change that [`State::judge`] found for this state.
+    pub fn apply(&mut self, change: Change) {
         match change {
             Change::Propagated(entries) => self.trail.extend(entries),
             Change::Decided(entry) => {
@@ -132,6 +145,14 @@ impl State {
 
     /// "**4 Resolve** (literal L')."
     fn resolve(&self, literal: u8) -> Result<Change, Refusal> {
+        let resolvent = self.resolvent(literal)?;
+        // "clause limits counted after merging"
+        demand(resolvent.clause.within_limits(), Refusal::of_step(18))?;
+        Ok(Change::Conflict(resolvent))
+    }
+
+    /// The conflict that Resolve would give, its limits not yet counted.
+    pub fn resolvent(&self, literal: u8) -> Result<Closure, Refusal> {
         let conflict = self.demand_conflict()?;
         let own = demand_literal(&conflict.clause, literal)?;
         // "The last entry is a propagated literal, the complement of L'."
@@ -142,10 +163,7 @@ impl State {
         let complement = own.at(&conflict.instance).complement();
         demand(*last == complement, Refusal::of_step(15))?;
         let (reason, reason_own) = self.reason(origin);
-        let resolvent = resolvent(conflict, literal, &reason, reason_own);
-        // "clause limits counted after merging"
-        demand(resolvent.clause.within_limits(), Refusal::of_step(18))?;
-        Ok(Change::Conflict(resolvent))
+        Ok(resolvent(conflict, literal, &reason, reason_own))
     }
 
     /// "**5 Factorize** (two different literals with the same instance)."
