@@ -4,6 +4,7 @@ mod common;
 
 use checker::clause::Atom;
 use checker::constraint::test;
+use checker::generate::random_set;
 use checker::refusal::Refusal;
 use common::*;
 
@@ -48,4 +49,37 @@ fn exactly_as_many_numbers_as_constants() {
             assert_eq!(test(constants.into(), &short), Ok(false));
         }
     }
+}
+
+/// The shortest chains between every two places, by the method of Floyd and Warshall.
+fn possible_by_table(constants: usize, atoms: &[Atom]) -> bool {
+    const NONE: i64 = i64::MAX / 4;
+    let mut table = [[NONE; 17]; 17];
+    let order = (1..constants).map(|first| (first, first + 1, -1));
+    let atoms = atoms.iter().map(|atom| (atom.p.into(), atom.q.into(), atom.c.into()));
+    for (p, q, c) in order.chain(atoms) {
+        let bound: &mut i64 = &mut table[p][q];
+        *bound = (*bound).min(c);
+    }
+    for middle in 0..=constants {
+        for p in 0..=constants {
+            for q in 0..=constants {
+                let way = table[p][middle].saturating_add(table[middle][q]);
+                table[p][q] = table[p][q].min(way).max(-NONE);
+            }
+        }
+    }
+    (0..=constants).all(|place| table[place][place] >= 0)
+}
+
+#[test]
+fn beside_a_table_of_bounds() {
+    let mut answers = [0, 0];
+    for seed in 0..20_000 {
+        let (constants, atoms) = random_set(seed);
+        let possible = test(constants, &atoms).expect("a set the test takes");
+        assert_eq!(possible, possible_by_table(constants, &atoms), "seed {seed}");
+        answers[possible as usize] += 1;
+    }
+    assert!(answers.iter().all(|&count| count > 5_000), "{answers:?}");
 }
