@@ -3,7 +3,8 @@
 //! The checker: [`clause`], [`constraint`], [`merge`], [`state`], [`step`], [`rules`] are the
 //! calculus, [`file`] and [`admission`] its two ways in, [`listing`] what is printed.
 //!
-//! The tests of others: [`generate`] makes run files, [`coverage`] counts what they come to.
+//! The tests of others: [`generate`] makes run files, [`coverage`] counts what they come to, [`smt`] puts
+//! questions to a solver.
 
 pub mod admission;
 pub mod clause;
@@ -17,5 +18,6 @@ pub mod merge;
 pub mod random;
 pub mod refusal;
 pub mod rules;
+pub mod smt;
 pub mod state;
 pub mod step;
