@@ -42,6 +42,13 @@ module _ {A : Type 0} (d : A) where
   set-exactly (suc n) [] x h = refl
   set-exactly (suc n) (y ∷ l) x h = ap {B = List A} (λ r. y ∷ r) (set-exactly n l x (omega arith))
 
+  -- The last element taken out again
+  pub unset-exactly : (n : ℕ) (l : List A) (x : A) → set (exactly n d (l ++ (x ∷ []))) (length l) d ≡ exactly n d l
+  unfolding exactly
+  unset-exactly zero l x = refl
+  unset-exactly (suc n) [] x = refl
+  unset-exactly (suc n) (y ∷ l) x = ap {B = List A} (λ r. y ∷ r) (unset-exactly n l x)
+
   pub getD-exactly : (n : ℕ) (l : List A) (i : ℕ) → i < n → getD (exactly n d l) i d ≡ getD l i d
   unfolding exactly
   getD-exactly zero l i h = absurd (omega arith)
