@@ -87,7 +87,7 @@ tail-once (there {e = background a} h) o = tail-once h (o .1)
 
 -- ---- runs
 
-inv-start : (nums : Numbers) (s : State) → Admitted s → Inv nums s
+pub inv-start : (nums : Numbers) (s : State) → Admitted s → Inv nums s
 inv-start nums s a = record {
   held = λ C m. let n = subst (List·Memᴰ C) e m in record { class = a .in-class C n; limited = a .limited C n; follows = λ I h. h C n };
   level = ap (λ (q : State). q .level) (a .new) ∙ sym (ap decisions t);

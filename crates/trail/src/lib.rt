@@ -214,7 +214,7 @@ pub fn undefined(trail: [Entry; MOST_ENTRIES], length: u8, l: Literal) -> bool
 // ---- parts of a clause
 
 // How many literals the record counts, and no more than it has room for
-fn literals_of(c: Clause) -> usize
+pub fn literals_of(c: Clause) -> usize
     ensures { λ r. ⌜ Counts (c .literals) mostLiterals (c .literalcount) r ⌝ }
 {
     let n = c.literalcount as usize;
@@ -513,7 +513,7 @@ fn constants_of(instance: [u8; MOST_VARIABLES], count: u8) -> usize
 }
 
 // The first `count` constants of an instance, blank from there on
-fn first_constants(instance: [u8; MOST_VARIABLES], count: u8) -> [u8; MOST_VARIABLES]
+pub fn first_constants(instance: [u8; MOST_VARIABLES], count: u8) -> [u8; MOST_VARIABLES]
     ensures { λ r. ⌜ r ≡ exactly mostVariables 0 (take count instance) ⌝ }
 {
     let n = constants_of(instance, count);
