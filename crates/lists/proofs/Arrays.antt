@@ -1,12 +1,12 @@
 -- Laws of a list held in an array, and of an array changed slot by slot.
-use mathlib.Core.Path.{_≡_, refl, sym, _∙_, ap}
-use mathlib.Core.List.{List, [], _∷_, _++_, map}
-use Prim.Native.Nat.{ℕ, zero, suc, _+_, _≤_, _<_}
-use native.Mathlib.Omega.{arith}
+use mathlib.Core.Path.{_∙_, _≡_, ap, refl, sym}
+use mathlib.Core.List.{List, [], _++_, _∷_, map}
+use Prim.Native.Nat.{_+_, _<_, _≤_, suc, zero, ℕ}
 use native.Mathlib.Numerals.{add-one}
-use lib.ListN.{length, getD, set, take, drop, replicate, length-map, length-take}
+use native.Mathlib.Omega.{arith}
+use lib.ListN.{drop, getD, length, length-map, length-take, replicate, set, take}
+use Rattle.lists.proofs.Walks.{map-more, take-more}
 use Rattle.lists.specs.Arrays.{exactly}
-use Rattle.lists.proofs.Walks.{take-more, map-more}
 
 module _ {A : Type 0} (d : A) where
   pub exactly-length : (n : ℕ) (l : List A) → length (exactly n d l) ≡ n

@@ -1,4 +1,5 @@
 -- Laws of the lists and tests of specs/.
+
 pub mod Tests
 pub mod Denials
 pub mod Members

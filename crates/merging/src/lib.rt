@@ -168,15 +168,15 @@ fn literal_by(t: [u8; BOTH_VARIABLES], v: u8, l: Literal) -> Literal
 // ---- groups of variables
 
 // The table in which each of v variables stands for itself
-fn start(v: u8) -> [u8; BOTH_VARIABLES]
+fn start(v: usize) -> [u8; BOTH_VARIABLES]
     requires { ⌜ v ≤ bothVariables ⌝ }
     ensures { λ r. ⌜ r ≡ exactly bothVariables 0 (upFrom 1 v) ⌝ }
 {
     let mut out = [0u8; BOTH_VARIABLES];
-    let mut x: u8 = 0;
+    let mut x: usize = 0;
     while x < v {
         let y = x + 1;
-        out[x as usize] = y;
+        out[x] = y as u8;
         x = y;
     }
     out
@@ -361,18 +361,19 @@ fn occurs(az: Atoms, ls: Literals, x: u8) -> bool
 }
 
 // The variables that occur, in order
-fn kept(az: Atoms, ls: Literals, v: u8) -> Names
+fn kept(az: Atoms, ls: Literals, v: usize) -> Names
     requires { ⌜ (az .n ≤ bothAtoms) × (ls .n ≤ bothLiterals) × (v ≤ bothVariables) ⌝ }
     ensures { λ r. ⌜ r ≡ heldNames (keepIf (occursIn (atomsIn az) (literalsIn ls)) (upFrom 1 v)) ⌝ }
 {
     let mut out = no_names();
-    let mut x: u8 = 0;
+    let mut x: usize = 0;
     while x < v {
         let y = x + 1;
-        let b = occurs(az, ls, y);
+        let name = y as u8;
+        let b = occurs(az, ls, name);
         if b {
             let m = out.n;
-            out.at[m] = y;
+            out.at[m] = name;
             out.n = m + 1;
         }
         x = y;
@@ -437,8 +438,8 @@ fn closed_atoms(l: Atoms, ks: Names) -> [Atom; MOST_ATOMS]
     let mut j: usize = 0;
     while j < n {
         let a = l.at[j];
-        let b = closed_atom(ks, a);
-        out[j] = b;
+        let d = closed_atom(ks, a);
+        out[j] = d;
         j += 1;
     }
     out
@@ -494,7 +495,7 @@ fn too_large() -> Merged
 }
 
 // The last part of every merge: the limits are counted on what it gives.
-fn close_up(v: u8, az: Atoms, ls: Literals, t: [u8; BOTH_VARIABLES]) -> Merged
+fn close_up(v: usize, az: Atoms, ls: Literals, t: [u8; BOTH_VARIABLES]) -> Merged
     requires { ⌜ (az .n ≤ bothAtoms) × (ls .n ≤ bothLiterals) × (v ≤ bothVariables) ⌝ }
     ensures { λ r. ⌜ r ≡ fitted (closeUp v (atomsIn az) (literalsIn ls) t) ⌝ }
 {
@@ -605,7 +606,7 @@ fn resolve_counted(n: Instanced, j: usize, r: Instanced, i: usize) -> Merged
     let ri = r.instance;
     let v = nc.variables;
     let u = rc.variables;
-    let w = v + u;
+    let w = v as usize + u as usize;
     let l = literal_at(nc, j);
     let k = literal_at(rc, i);
     let t = joined_arguments(start(w), l, v, k);
@@ -639,14 +640,15 @@ fn factor_counted(n: Instanced, lo: usize, hi: usize) -> Merged
     let nc = n.clause;
     let ni = n.instance;
     let v = nc.variables;
+    let w = v as usize;
     let l = literal_at(nc, lo);
     let k = literal_at(nc, hi);
-    let t = joined_arguments(start(v), l, 0, k);
+    let t = joined_arguments(start(w), l, 0, k);
     let az = first_atoms(nc, t);
     let ls = first_literals(nc, hi, t);
     let names = first_names(ni, v);
     let tau = names.at;
-    close_up(v, az, ls, tau)
+    close_up(w, az, ls, tau)
 }
 
 // "Their variables are merged; the one with the larger number goes." The two literals of the conflict n are at i and j.
@@ -768,15 +770,16 @@ fn reason_counted(c: Clause, i: usize, tau: [u8; MOST_VARIABLES]) -> Reason
     ensures { λ r. ⌜ r ≡ packedReason (reason (clauseOf c) i (take (c .variables) tau)) ⌝ }
 {
     let v = c.variables;
+    let w = v as usize;
     let l = literal_at(c, i);
     let g = ground(l, tau, v);
-    let t = joined_own(c, tau, l, g, start(v));
+    let t = joined_own(c, tau, l, g, start(w));
     let az = first_atoms(c, t);
     let ls = reason_literals(c, tau, g, i, t);
     let own = own_index(c, tau, g, i);
     let names = first_names(tau, v);
     let at = names.at;
-    let m = close_up(v, az, ls, at);
+    let m = close_up(w, az, ls, at);
     let of = m.of;
     Reason { of: of, own: own }
 }
