@@ -77,7 +77,6 @@ module _ (others : Bool) (own : Literal) (t : Trail) (τ : List ℕ) (l : List L
   none-left e = all-pass (passes others own t τ) (take n l) (ap (allOf (passes others own t τ)) (sym (C .same) ∙ ap (λ k. take k l) (sym e)) ∙ passed)
 
   module _ (h : j < r) {g : Literal} {b : Bool} (e : g ≡ ground τ (getD l j noLiteral)) (q : b ≡ (others && sameLiteral g own)) where
-
     pass : passes others own t τ (getD l j noLiteral) ≡ true → allOf (passes others own t τ) (take (j + 1) l) ≡ true
     pass = allOf-and (passes others own t τ) l j noLiteral (omega (arith, C .few, C .long)) passed
 
@@ -93,5 +92,5 @@ module _ (others : Bool) (own : Literal) (t : Trail) (τ : List ℕ) (l : List L
         let z : onTrail (complement (ground τ (getD l j noLiteral))) t ≡ false = cc in
         ap (firstNumber (passes others own t τ)) (sym (C .same))
         ∙ first-fails (passes others own t τ) (take r l) j noLiteral (ap (allOf (passes others own t τ)) (take-take j r l (omega arith)) ∙ passed)
-            (omega (arith, length-take-le r l (omega (arith, C .few, C .long))))
-            (ap (passes others own t τ) (getD-take r l j noLiteral h) ∙ ap₂ (λ x x′. x || x′) y z)
+        (omega (arith, length-take-le r l (omega (arith, C .few, C .long))))
+        (ap (passes others own t τ) (getD-take r l j noLiteral h) ∙ ap₂ (λ x x′. x || x′) y z)

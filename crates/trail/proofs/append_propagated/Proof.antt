@@ -18,10 +18,10 @@ use Rattle.trail.proofs.append_propagated.Statement.{statement}
 use Rattle.trail.proofs.append_propagated.Tie as tie
 
 abbrev Inv-loop : tie.InvT-loop
-Inv-loop len number l instance count clause m n out j a k₀ k = (k ≤ m) × (atomOnTrail a (trailOf out k) ≡ false)
+Inv-loop len number l instance count clause m n out j a i₀ i = (i ≤ m) × (atomOnTrail a (trailOf out i) ≡ false)
 
 abbrev μ-loop : tie.MeasureT-loop
-μ-loop len number l instance count clause m n out j a k₀ k = m - k
+μ-loop len number l instance count clause m n out j a i₀ i = m - i
 
 abbrev Inv-atoms : tie.InvT-atoms
 Inv-atoms len number l instance count clause m₀ n out₀ j₀ m out j = (j ≤ n) × (m ≤ mostEntries) × Stored out m (appendAtoms (groundAtoms (take count instance) (take j (clause .atoms))) (trailOf out₀ m₀))
@@ -91,10 +91,10 @@ atoms-again c =
     let atoms-of = c .before .before .before .before .before .before .before .before .before .before .before .atoms-of in
     let atoms = c .before .before .before .before .before .before .before .before .atoms in
     let ground-atom = c .before .before .before .before .before .ground-atom in
-    (omega arith, search needs, stored-found (renameAtom (under (take (args .count) (args .instance)))) (args .t3 .atoms) _ noAtom (atoms .inv .2) (ground-atom .ensures) (omega (arith, atoms-of .ensures .few, atoms-of .ensures .long)) (any-found (isAtom (ground-atom .result)) (atoms .out) (c .before .before .before .before .loop .k) (atoms .m) (omega arith) (sym (c .before .is-atom .ensures) ∙ c .if2 .taken)))
+    (omega arith, search needs, stored-found (renameAtom (under (take (args .count) (args .instance)))) (args .t3 .atoms) _ noAtom (atoms .inv .2) (ground-atom .ensures) (omega (arith, atoms-of .ensures .few, atoms-of .ensures .long)) (any-found (isAtom (ground-atom .result)) (atoms .out) (c .before .before .before .before .loop .i) (atoms .m) (omega arith) (sym (c .before .is-atom .ensures) ∙ c .if2 .taken)))
 
-add-k : tie.Need-add-k Inv-loop μ-loop Inv-atoms μ-atoms
-add-k c = search needs
+add-i : tie.Need-add-i Inv-loop μ-loop Inv-atoms μ-atoms
+add-i c = search needs
 
 loop-less : tie.Need-loop-less Inv-loop μ-loop Inv-atoms μ-atoms
 loop-less c = search needs
@@ -102,7 +102,7 @@ loop-less c = search needs
 loop-again : tie.Need-loop-again Inv-loop μ-loop Inv-atoms μ-atoms
 loop-again c =
     let loop = c .before .before .before .before .loop in
-    (omega arith, any-more (isAtom (c .before .before .before .before .before .ground-atom .result)) (c .before .before .before .before .before .before .before .before .atoms .out) (loop .k) (loop .inv .1) (sym (c .before .is-atom .ensures) ∙ c .if2 .left))
+    (omega arith, any-more (isAtom (c .before .before .before .before .before .ground-atom .result)) (c .before .before .before .before .before .before .before .before .atoms .out) (loop .i) (loop .inv .1) (sym (c .before .is-atom .ensures) ∙ c .if2 .left))
 
 no-room-requires-2 : tie.Need-no-room-requires-2 Inv-loop μ-loop Inv-atoms μ-atoms
 no-room-requires-2 c κs = search needs
@@ -114,7 +114,7 @@ returns-2 c =
     let literal-instance = c .before .before .before .before .before .before .before .before .before .literal-instance in
     let atoms = c .before .before .before .before .before .before .before .atoms in
     let loop = c .before .before .before .loop in
-    grew-none _ (c .no-room2 .ensures .0) (c .no-room2 .ensures .1) (subst (λ t. mostEntries < length t) (propagated-done (clauseOf (args .t3)) (args .l - 1) (take (args .count) (args .instance)) (propagated (args .number) (args .l) (take (args .count) (args .instance))) (trailOf (args .trail) (args .length)) _ (take (atoms-of .result) (args .t3 .atoms)) (literal-instance .result) (atoms-of .ensures .same) (literal-instance .ensures) (stored-pushed (c .before .before .before .before .before .before .before .before .before .before .before .before .pre) (omega arith) (c .before .before .before .before .before .before .before .before .propagated-entry .ensures) .says)) (no-room-for (renameAtom (under (take (args .count) (args .instance)))) (args .t3 .atoms) _ noAtom (atoms .inv .2) (c .before .before .before .before .ground-atom .ensures) (omega (arith, atoms-of .ensures .few, atoms-of .ensures .long)) (atoms-of .result) (omega arith) (omega arith) (let e : loop .k ≡ atoms .m = omega arith in rw e at (loop .inv .1))))
+    grew-none _ (c .no-room2 .ensures .0) (c .no-room2 .ensures .1) (subst (λ t. mostEntries < length t) (propagated-done (clauseOf (args .t3)) (args .l - 1) (take (args .count) (args .instance)) (propagated (args .number) (args .l) (take (args .count) (args .instance))) (trailOf (args .trail) (args .length)) _ (take (atoms-of .result) (args .t3 .atoms)) (literal-instance .result) (atoms-of .ensures .same) (literal-instance .ensures) (stored-pushed (c .before .before .before .before .before .before .before .before .before .before .before .before .pre) (omega arith) (c .before .before .before .before .before .before .before .before .propagated-entry .ensures) .says)) (no-room-for (renameAtom (under (take (args .count) (args .instance)))) (args .t3 .atoms) _ noAtom (atoms .inv .2) (c .before .before .before .before .ground-atom .ensures) (omega (arith, atoms-of .ensures .few, atoms-of .ensures .long)) (atoms-of .result) (omega arith) (omega arith) (let e : loop .i ≡ atoms .m = omega arith in rw e at (loop .inv .1))))
 
 background-entry-requires : tie.Need-background-entry-requires Inv-loop μ-loop Inv-atoms μ-atoms
 background-entry-requires c κs = search needs
@@ -137,7 +137,7 @@ atoms-again-2 c =
     let atoms-of = c .before .before .before .before .before .before .before .before .before .before .atoms-of in
     let atoms = c .before .before .before .before .before .before .before .atoms in
     let loop = c .before .before .before .loop in
-    (omega arith, omega arith, stored-new (renameAtom (under (take (args .count) (args .instance)))) (args .t3 .atoms) _ noAtom (atoms .inv .2) (c .before .before .before .before .ground-atom .ensures) (omega (arith, atoms-of .ensures .few, atoms-of .ensures .long)) (omega arith) (c .background-entry .ensures) (let e : loop .k ≡ atoms .m = omega arith in rw e at (loop .inv .1)))
+    (omega arith, omega arith, stored-new (renameAtom (under (take (args .count) (args .instance)))) (args .t3 .atoms) _ noAtom (atoms .inv .2) (c .before .before .before .before .ground-atom .ensures) (omega (arith, atoms-of .ensures .few, atoms-of .ensures .long)) (omega arith) (c .background-entry .ensures) (let e : loop .i ≡ atoms .m = omega arith in rw e at (loop .inv .1)))
 
 cast-t38 : tie.Need-cast-t38 Inv-loop μ-loop Inv-atoms μ-atoms
 cast-t38 c = search needs
@@ -178,7 +178,7 @@ append-propagated-spec =
     is-atom-requires
     atoms-less
     atoms-again
-    add-k
+    add-i
     loop-less
     loop-again
     no-room-requires-2
