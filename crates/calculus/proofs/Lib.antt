@@ -4,9 +4,14 @@ pub mod Instances
 pub mod Truths
 pub mod Derived
 pub mod OnTrail
+pub mod Cuts
 pub mod Answers
+pub mod Conditions
+pub mod Admitting
 pub mod Trails
 pub mod Class
 pub mod Levels
 pub mod Invariant
 pub mod Demands
+pub mod Certificates
+pub mod Examples

@@ -1,11 +1,12 @@
 -- The tests of a trail say what the paper's terms say.
-use mathlib.Core.Path.{_≡_}
+use mathlib.Core.Path.{_≡_, refl}
 use mathlib.Core.List.{List·Memᴰ}
-use mathlib.Core.Bool.{_||_, not}
+use mathlib.Core.Bool.{Bool, _||_, false, not, true}
 use lib.Dec.{T, T-not, not-T}
 use Rattle.basis.specs.declared.Literal.{Literal}
 use Rattle.lists.proofs.Denials.{not-or, or-second}
 use Rattle.lists.proofs.Members.{anyOf-in, anyOf-out}
+use Rattle.lists.proofs.Tests.{Said, fails, holds, or-l, or-r, said}
 use Rattle.calculus.specs.Clauses.{complement, sameLiteral}
 use Rattle.calculus.specs.OnTrail.{False, On}
 use Rattle.calculus.specs.Trails.{Entry, Trail, background, foreground, isFalse, isLiteral, onTrail}
@@ -16,6 +17,13 @@ same-literal {a} {b} e = rw (← e) (sameLiteral-refl a)
 
 pub not-same : (a b : Literal) → T (not (sameLiteral a b)) → ¬ (a ≡ b)
 not-same a b h e = T-not (sameLiteral a b) h (same-literal e)
+
+pub complement-twice : (l : Literal) → complement (complement l) ≡ l
+complement-twice l = let e = not-twice (l .positive) in λ i. record { positive = e i; predicate = l .predicate; x = l .x; y = l .y; z = l .z }
+  where
+    not-twice : (b : Bool) → not (not b) ≡ b
+    not-twice true = refl
+    not-twice false = refl
 
 pub on-out : (t : Trail) (l : Literal) → T (onTrail l t) → On t l
 on-out t l h = let (e, m, k) = anyOf-out (isLiteral l) t h in go e m k
@@ -41,3 +49,10 @@ pub other-not-false : (t : Trail) (a g : Literal) → T (not (sameLiteral a g ||
 other-not-false t a g h =
     let (n, k) = not-or (sameLiteral a g) (isFalse t a) h in
     (not-same a g n, not-on-out t (complement a) k)
+
+pub other-false-in : (t : Trail) (a g : Literal) → (¬ (a ≡ g) → False t a) → T (sameLiteral a g || isFalse t a)
+other-false-in t a g h = go (said (sameLiteral a g))
+  where
+    go : Said (sameLiteral a g) → T (sameLiteral a g || isFalse t a)
+    go (holds k) = or-l (sameLiteral a g) (isFalse t a) k
+    go (fails k) = or-r (sameLiteral a g) (isFalse t a) (on-in t (complement a) (h (not-same a g k)))

@@ -8,7 +8,11 @@ pub mod States
 pub mod Admission
 pub mod Rules
 pub mod OnTrail
+pub mod Cuts
+pub mod Conditions
 pub mod Answers
+pub mod Admitting
 pub mod Truth
 pub mod Runs
 pub mod Demands
+pub mod Examples

@@ -13,3 +13,7 @@ or-second false b t h = t
 pub not-or : (a b : Bool) → T (not (a || b)) → T (not a) × T (not b)
 not-or true b t = absurd t
 not-or false b t = (tt, t)
+
+pub not-or-in : (a b : Bool) → T (not a) → T (not b) → T (not (a || b))
+not-or-in true b s t = absurd s
+not-or-in false b s t = t

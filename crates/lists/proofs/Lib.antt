@@ -2,6 +2,7 @@
 pub mod Tests
 pub mod Denials
 pub mod Members
+pub mod Meanings
 pub mod Counting
 pub mod Walk
 pub mod Arrays
