@@ -11,7 +11,7 @@ use Rattle.basis.specs.declared.Literal.{Literal}
 use Rattle.basis.specs.Limits.{mostVariables, mostAtoms, mostLiterals, mostInput, mostPredicates, mostArguments, mostConstants, mostC}
 use Rattle.basis.specs.Refusals.{wrongMark, aboveLimit, outOfRange, occursNowhere, lacksBound, unknownRule, surplus}
 use Rattle.lists.specs.Lists.{upFrom, allOf, sameList}
-use Rattle.calculus.specs.Checks.{between, _or_}
+use Rattle.calculus.specs.Checks.{between, Check, _or_}
 use Rattle.calculus.specs.Clauses.{Clause}
 use Rattle.calculus.specs.Merging.{occursIn}
 use Rattle.calculus.specs.Class.{arityOf, differencesBounded}
@@ -77,7 +77,13 @@ literal arities v =
     argument v (arityOf arities r) 3 then λ z.
     give (record { positive = eqb sign 1; predicate = r; x = x; y = y; z = z })
 
--- "Input clauses, then each: variables, atoms, literals, the atoms .., the literals"; "a clause's 5 then 6 at its end"
+-- "A clause's 5 then 6 at its end"
+abbrev pub classChecks : Clause → List Check
+classChecks C =
+    allOf (occursIn (C .atoms) (C .literals)) (upFrom 1 (C .variables)) or occursNowhere ∷
+    differencesBounded (C .atoms) or lacksBound ∷ []
+
+-- "Input clauses, then each: variables, atoms, literals, the atoms .., the literals"
 unfoldable pub clause : List ℕ → Reader Clause
 clause arities =
     (count mostVariables then λ v.
@@ -86,9 +92,7 @@ clause arities =
     times n (atom v) then λ az.
     times m (literal arities v) then λ ls.
     give (record { variables = v; atoms = az; literals = ls }))
-    judged λ C.
-    allOf (occursIn (C .atoms) (C .literals)) (upFrom 1 (C .variables)) or occursNowhere ∷
-    differencesBounded (C .atoms) or lacksBound ∷ []
+    judged classChecks
 
 -- ---- steps
 

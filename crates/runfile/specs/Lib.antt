@@ -2,3 +2,5 @@
 pub mod Readers
 pub mod File
 pub mod Cases
+pub mod Written
+pub mod Claims
