@@ -18,7 +18,7 @@ use Rattle.calculus.specs.Clauses.{Instanced, arguments, ground, renameA
 use Rattle.calculus.specs.Merging.{closeUp, distinct, join, joins, merge, occursIn}
 use Rattle.calculus.proofs.Merged.{distinct-in, distinct-out, renameLiteral-same, swap, under-join}
 
-swap-fix : {A : Type 0} (f : ℕ → A) (a b w : ℕ) → f a ≡ f b → f (swap a b w) ≡ f w
+pub swap-fix : {A : Type 0} (f : ℕ → A) (a b w : ℕ) → f a ≡ f b → f (swap a b w) ≡ f w
 swap-fix {A} f a b w e = go (said (eqb w (max a b))) (said (leb a b))
   where
     go : Said (eqb w (max a b)) → Said (leb a b) → f (swap a b w) ≡ f w

@@ -13,5 +13,8 @@ pub mod Class
 pub mod Levels
 pub mod Invariant
 pub mod Demands
+pub mod Merges
 pub mod Certificates
 pub mod Examples
+pub mod FalseTools
+pub mod Speed

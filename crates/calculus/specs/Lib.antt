@@ -14,5 +14,7 @@ pub mod Answers
 pub mod Admitting
 pub mod Truth
 pub mod Runs
+pub mod Merges
 pub mod Demands
 pub mod Examples
+pub mod FalseTools

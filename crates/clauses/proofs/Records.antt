@@ -2,7 +2,7 @@
 use mathlib.Core.Path.{_≡_, refl, sym, _∙_, ap, subst}
 use mathlib.Core.List.{List}
 use mathlib.Core.Bool.{Bool, true, _&&_}
-use Prim.Native.Nat.{ℕ, zero, suc, _-_, _≤_, _<_}
+use Prim.Native.Nat.{ℕ, zero, suc, _-_, _<_}
 use native.Mathlib.Omega.{arith}
 use lib.IntN.{ℤ}
 use lib.Dec.{T, T-not, eqb, leb, leb→le}
@@ -15,10 +15,10 @@ use Rattle.basis.specs.Atoms.{noAtom}
 use Rattle.lists.specs.Lists.{sameWhole}
 use Rattle.lists.proofs.Tests.{Said, holds, fails, said, T→eq, F→eq, and-l, and-r, sameWhole→eq, sameWhole-refl}
 use Rattle.lists.proofs.Arrays.{take-exactly}
-use Rattle.calculus.specs.Clauses as calculus
 use Rattle.calculus.specs.Class.{Limited}
 use Rattle.clauses.specs.declared.Clause.{Clause}
 use Rattle.clauses.specs.Records.{clauseOf, instancedOf, packed, packedInstanced, counted, Counted}
+use Rattle.calculus.specs.Clauses as calculus
 
 pub packed-says : (C : calculus.Clause) → Limited C → clauseOf (packed C) ≡ C
 packed-says C h = λ i. record {

@@ -6,9 +6,9 @@ use lib.ListN.{length, take}
 use Rattle.basis.specs.Limits.{mostVariables, mostAtoms, mostLiterals}
 use Rattle.basis.specs.Atoms.{noAtom}
 use Rattle.lists.specs.Arrays.{exactly}
-use Rattle.calculus.specs.Clauses as calculus
 use Rattle.clauses.specs.declared.Clause.{Clause}
 use Rattle.clauses.specs.declared.Instanced.{Instanced}
+use Rattle.calculus.specs.Clauses as calculus
 
 -- The clause of a record: its first atoms and literals, as many as are counted
 abbrev pub clauseOf : Clause → calculus.Clause

@@ -19,7 +19,7 @@ use Rattle.bounds.proofs.Draw.{drawn}
 use Rattle.constraint.specs.Test.{Accepted, atomAt}
 use Rattle.constraint.specs.Square.{places, mostBound, entry, Stands, Ordered, Meets, Posed}
 use Rattle.constraint.proofs.Stands.{stands-values, stands-none}
-use Rattle.constraint.proofs.Steps.{within-one, place-p, place-q, within-c}
+use Rattle.constraint.proofs.Steps.{place-p, place-q, within-c}
 
 -- Values shifted until place 0 has zero.
 shifted-rises : (x y z : ℤ) → x ≤ℤ (negsuc 0 +ℤ y) → (x -ℤ z) <ℤ (y -ℤ z)
@@ -58,7 +58,7 @@ module _ (constants count : ℕ) (atoms : List Atom) (A : Accepted constants cou
   in-order : Ordered constants (near .0)
   in-order = (
     (λ i j hi hj. near .1 .near i j),
-    λ j a b. near .1 .kept j (suc j) (negsuc 0) (omega (arith, A .counted .few-constants)) (omega (arith, A .counted .few-constants)) within-one
+    λ j a b. near .1 .kept j (suc j) (negsuc 0) (omega (arith, A .counted .few-constants)) (omega (arith, A .counted .few-constants)) (record { above = omega arith; below = omega arith })
         (by-order (P .value j) (P .value (suc j)) (P .rising j a b)),
   )
 

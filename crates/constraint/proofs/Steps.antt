@@ -44,9 +44,6 @@ order-more t r i S low h is = go (ltZ (negsuc 0 +ℤ entry t (suc i) i) (pos 0))
     go true e = absurd (stands-none (Ordered i) t S i (suc i) (negsuc 0) (omega arith) (omega arith) e pos (in-places i) (rises i))
     go false e = stands-as (stands-put (Ordered i) t S i (suc i) (negsuc 0) (omega arith) (omega arith) r (rw add-one at is) e) one-more
 
-pub within-one : Within mostBound (negsuc 0)
-within-one = record { above = omega arith; below = omega arith }
-
 -- The order has been put in as far as the last constant.
 pub order-all : (constants i : ℕ) (t : List (List ℤ)) → constants ≤ i → i ≤ max constants 1 → Stands (Ordered i) t → Stands (Ordered constants) t
 order-all constants i t h k S = stands-as S (λ v. (λ w. (w .0, λ j a b. w .1 j a (omega arith)), λ w. (w .0, λ j a b. w .1 j a (omega arith))))

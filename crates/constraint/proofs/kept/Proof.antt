@@ -86,10 +86,10 @@ mul-back-2 : tie.Need-mul-back-2 Inv-loop μ-loop
 mul-back-2 c = search needs
 
 index-1-back : tie.Need-index-1-back Inv-loop μ-loop
-index-1-back c = q-fits c
+index-1-back c = omega (arith, p-fits c, q-fits c)
 
 index-2-back : tie.Need-index-2-back Inv-loop μ-loop
-index-2-back c = p-fits c
+index-2-back c = omega (arith, p-fits c, q-fits c)
 
 below-zero-requires : tie.Need-below-zero-requires Inv-loop μ-loop
 below-zero-requires c κs = (c-within (c .before), back-within (c .before))
@@ -99,7 +99,7 @@ returns c = let w = c .before .before .before in
     answer-no _ _ _ (turn w .loop .inv .1) (turn w .loop .k) (search needs) (turn w .loop .t) (turn w .loop .inv .2) (sym (tells (c .before)) ∙ c .if1 .taken)
 
 put-bound-requires : tie.Need-put-bound-requires Inv-loop μ-loop
-put-bound-requires c κs = let w = c .before .before .before in (p-fits w, q-fits w, c-within w, turn w .loop .inv .2 .sound)
+put-bound-requires c κs = let w = c .before .before .before in (omega (arith, p-fits w, q-fits w), omega (arith, p-fits w, q-fits w), c-within w, turn w .loop .inv .2 .sound)
 
 add-k : tie.Need-add-k Inv-loop μ-loop
 add-k c = search needs

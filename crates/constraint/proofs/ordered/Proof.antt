@@ -4,7 +4,7 @@ use native.Mathlib.Omega.{arith}
 use borrow.Author.Needs.{needs}
 use Rattle.basis.specs.Limits.{mostConstants}
 use Rattle.constraint.specs.Square.{Stands, Ordered}
-use Rattle.constraint.proofs.Steps.{order-none, order-more, order-all, within-one}
+use Rattle.constraint.proofs.Steps.{order-none, order-more, order-all}
 use Rattle.constraint.proofs.ordered.Statement.{statement}
 use Rattle.constraint.proofs.ordered.Tie as tie
 
@@ -24,7 +24,7 @@ add-put-bound : tie.Need-add-put-bound Inv-loop μ-loop
 add-put-bound c = search needs
 
 put-bound-requires : tie.Need-put-bound-requires Inv-loop μ-loop
-put-bound-requires c κs = (search needs, search needs, within-one, c .before .loop .inv .3 .sound)
+put-bound-requires c κs = (search needs, search needs, record { above = omega arith; below = omega arith }, c .before .loop .inv .3 .sound)
 
 add-i : tie.Need-add-i Inv-loop μ-loop
 add-i c = search needs

@@ -1,0 +1,2 @@
+-- The exported test's number is unique.
+pub mod Unique

@@ -1,0 +1,2 @@
+-- The constraint test for other languages: what its number says.
+pub mod Export

@@ -1,0 +1,72 @@
+// The constraint test for programs in C or Rust: it takes slices and answers by a number.
+ghost use mathlib.Core.Path.{_≡_};
+ghost use Prim.Native.Nat.{_<_};
+ghost use lib.ListN.{getD};
+ghost use lib.IntN.{pos};
+ghost use Rattle.basis.specs.Limits.{mostTested};
+ghost use Rattle.constraint_export.specs.Export.{atomFrom, Gathered, code, Tells};
+use basis::Atom;
+use basis::MOST_TESTED;
+use constraint::Answer;
+
+fn byte_at(s: &[u8], k: usize) -> u8
+    ensures { λ r. ⌜ r ≡ getD (now (s .entry)) k 0 ⌝ }
+{
+    if k < s.len() { s[k] } else { 0 }
+}
+
+fn word_at(s: &[i32], k: usize) -> i32
+    ensures { λ r. ⌜ r ≡ getD (now (s .entry)) k (pos 0) ⌝ }
+{
+    if k < s.len() { s[k] } else { 0 }
+}
+
+fn atom_at(places: &[u8], bounds: &[i32], k: usize) -> Atom
+    requires { ⌜ k < mostTested ⌝ }
+    ensures { λ r. ⌜ r ≡ atomFrom (now (places .entry)) (now (bounds .entry)) k ⌝ }
+{
+    Atom {
+        p: byte_at(places, k + k),
+        q: byte_at(places, k + k + 1),
+        c: word_at(bounds, k),
+    }
+}
+
+// The atoms from their places, p and q by turns, and their bounds c; blank past the slices' ends.
+fn gathered(places: &[u8], bounds: &[i32]) -> [Atom; MOST_TESTED]
+    ensures { λ r. ⌜ Gathered (now (places .entry)) (now (bounds .entry)) r ⌝ }
+{
+    let none = Atom { p: 0, q: 0, c: 0 };
+    let mut atoms = [none; MOST_TESTED];
+    let mut k = 0;
+    while k < MOST_TESTED {
+        atoms[k] = atom_at(places, bounds, k);
+        k += 1;
+    }
+    atoms
+}
+
+// 1 for yes, 0 for no, and for a refusal 256 times its number and its place.
+fn coded(answer: Answer) -> u32
+    ensures { λ r. ⌜ r ≡ code answer ⌝ }
+{
+    match answer {
+        Answer::Yes => 1,
+        Answer::No => 0,
+        Answer::Refused { number, place } => (number as u32) * 256 + (place as u32),
+    }
+}
+
+// The constraint test.
+#[no_mangle]
+pub extern "C" fn constraint_possible(
+    constants: u8,
+    count: u8,
+    places: &[u8],
+    bounds: &[i32],
+) -> u32
+    ensures { λ r. ⌜ Tells constants count (now (places .entry)) (now (bounds .entry)) r ⌝ }
+{
+    let atoms = gathered(places, bounds);
+    coded(constraint::possible(constants, count, atoms))
+}

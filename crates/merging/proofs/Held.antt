@@ -1,0 +1,180 @@
+-- Lists held in the arrays that merging works on, and what one turn of each walk does to them.
+use mathlib.Core.Path.{_≡_, refl, sym, _∙_, ap, ap₂}
+use mathlib.Core.List.{List, [], _∷_, _++_, map, append-assoc, map-append}
+use mathlib.Core.Bool.{Bool, true, false, cond}
+use Prim.Native.Nat.{ℕ, suc, _+_, _-_, _≤_, _<_}
+use native.Mathlib.Omega.{arith}
+use native.Mathlib.Numerals.{add-one}
+use lib.Dec.{eqb}
+use lib.ListN.{length, getD, set, take, drop, length-append, length-map, length-take, drop-of-length-le}
+use lib.Seq.{drop-cons}
+use borrow.Author.Tests.{eq-eqb, ne-eqb}
+use Rattle.basis.specs.declared.Atom.{Atom}
+use Rattle.basis.specs.declared.Literal.{Literal}
+use Rattle.basis.specs.Atoms.{noAtom}
+use Rattle.lists.specs.Lists.{upFrom, keepIf, anyOf, without, indexOf}
+use Rattle.lists.specs.Arrays.{exactly}
+use Rattle.lists.proofs.Arrays.{take-exactly, set-exactly}
+use Rattle.lists.proofs.Walks.{take-more, map-more, keepIf-more, keepIf-short, without-more, without-short, upFrom-more, upFrom-length}
+use Rattle.calculus.specs.Clauses.{noLiteral, sameAtom}
+use Rattle.merging.specs.declared.Atoms.{Atoms}
+use Rattle.merging.specs.declared.Literals.{Literals}
+use Rattle.merging.specs.declared.Names.{Names}
+use Rattle.merging.specs.Scratch.{atomsIn, literalsIn, namesIn, heldAtoms, heldLiterals, heldNames, addOne, addEach}
+
+-- ---- what is held can be read back
+
+pub atoms-in : {l : Atoms} (xs : List Atom) → length xs ≤ 48 → l ≡ heldAtoms xs → atomsIn l ≡ xs
+atoms-in xs h e = ap atomsIn e ∙ take-exactly noAtom 48 xs h
+
+pub literals-in : {l : Literals} (xs : List Literal) → length xs ≤ 16 → l ≡ heldLiterals xs → literalsIn l ≡ xs
+literals-in xs h e = ap literalsIn e ∙ take-exactly noLiteral 16 xs h
+
+pub names-in : {l : Names} (xs : List ℕ) → length xs ≤ 24 → l ≡ heldNames xs → namesIn l ≡ xs
+names-in xs h e = ap namesIn e ∙ take-exactly 0 24 xs h
+
+pub atoms-held : {l : Atoms} (xs : List Atom) → length xs ≤ 48 → l ≡ heldAtoms xs → l ≡ heldAtoms (atomsIn l)
+atoms-held xs h e = e ∙ ap heldAtoms (sym (atoms-in xs h e))
+
+pub literals-held : {l : Literals} (xs : List Literal) → length xs ≤ 16 → l ≡ heldLiterals xs → l ≡ heldLiterals (literalsIn l)
+literals-held xs h e = e ∙ ap heldLiterals (sym (literals-in xs h e))
+
+pub names-held : {l : Names} (xs : List ℕ) → length xs ≤ 24 → l ≡ heldNames xs → l ≡ heldNames (namesIn l)
+names-held xs h e = e ∙ ap heldNames (sym (names-in xs h e))
+
+-- ---- one more is stored
+
+abbrev pub pushAtom : Atoms → Atom → Atoms
+pushAtom l b = record { n = l .n + 1; at = set (l .at) (l .n) b }
+
+abbrev pub pushLiteral : Literals → Literal → Literals
+pushLiteral l b = record { n = l .n + 1; at = set (l .at) (l .n) b }
+
+abbrev pub pushName : Names → ℕ → Names
+pushName l b = record { n = l .n + 1; at = set (l .at) (l .n) b }
+
+push-atom : (xs : List Atom) (b : Atom) → length xs < 48 → pushAtom (heldAtoms xs) b ≡ heldAtoms (xs ++ (b ∷ []))
+push-atom xs b h = λ i. record { n = sym (length-append xs (b ∷ [])) i; at = set-exactly noAtom 48 xs b h i }
+
+pub push-literal : (xs : List Literal) (b : Literal) → length xs < 16 → pushLiteral (heldLiterals xs) b ≡ heldLiterals (xs ++ (b ∷ []))
+push-literal xs b h = λ i. record { n = sym (length-append xs (b ∷ [])) i; at = set-exactly noLiteral 16 xs b h i }
+
+push-name : (xs : List ℕ) (b : ℕ) → length xs < 24 → pushName (heldNames xs) b ≡ heldNames (xs ++ (b ∷ []))
+push-name xs b h = λ i. record { n = sym (length-append xs (b ∷ [])) i; at = set-exactly 0 24 xs b h i }
+
+-- ---- turns
+
+module _ {A B : Type 0} (f : A → B) where
+  pub mapped-short : (l : List A) (j : ℕ) → length (map f (take j l)) ≤ j
+  mapped-short l j = omega (arith, length-map (take j l) f, length-take j l)
+
+  -- Stored into an array slot by slot
+  pub mapped-turn : (n : ℕ) (d : B) (e : A) (l : List A) (j : ℕ) → j < length l → j < n →
+      set (exactly n d (map f (take j l))) j (f (getD l j e)) ≡ exactly n d (map f (take (j + 1) l))
+  mapped-turn n d e l j h k =
+      let s : length (map f (take j l)) ≡ j = omega (arith, length-map (take j l) f, length-take j l) in
+      ap (λ (i : ℕ). set (exactly n d (map f (take j l))) i (f (getD l j e))) (sym s)
+      ∙ set-exactly d n (map f (take j l)) (f (getD l j e)) (omega arith) ∙ ap (exactly n d) (sym (map-more f l j e h))
+
+pub start-turn : (x : ℕ) → x < 24 → set (exactly 24 0 (upFrom 1 x)) x (x + 1) ≡ exactly 24 0 (upFrom 1 (x + 1))
+start-turn x h =
+    let s = upFrom-length 1 x in
+    ap (λ (i : ℕ). set (exactly 24 0 (upFrom 1 x)) i (x + 1)) (sym s) ∙ set-exactly 0 24 (upFrom 1 x) (x + 1) (omega arith)
+    ∙ ap (exactly 24 0) (ap (λ (k : ℕ). upFrom 1 x ++ (k ∷ [])) (omega arith) ∙ sym (upFrom-more 1 x))
+
+-- ---- atoms, each where it is new
+
+pub addEach-more : (xs bs : List Atom) (b : Atom) → addEach xs (bs ++ (b ∷ [])) ≡ addOne (addEach xs bs) b
+addEach-more xs [] b = refl
+addEach-more xs (a ∷ bs) b = addEach-more (addOne xs a) bs b
+
+pub addEach-short : (xs bs : List Atom) → length (addEach xs bs) ≤ length xs + length bs
+addEach-short xs [] = omega arith
+addEach-short xs (b ∷ bs) = omega (arith, addEach-short (addOne xs b) bs, go (anyOf (λ a. sameAtom a b) xs))
+  where
+    go : (t : Bool) → length (cond t xs (xs ++ (b ∷ []))) ≤ length xs + 1
+    go true = omega arith
+    go false = omega (arith, length-append xs (b ∷ []))
+
+module _ (xs : List Atom) (f : Atom → Atom) (l : List Atom) (j : ℕ) where
+  pub atoms-short : length (addEach xs (map f (take j l))) ≤ length xs + j
+  atoms-short = omega (arith, addEach-short xs (map f (take j l)), mapped-short f l j)
+
+  -- b, which f gives for the next atom, is stored where it is new.
+  pub atoms-turn : (o o′ : Atoms) (b : Atom) (old : Bool) → j < length l → length xs + j < 48 →
+      o ≡ heldAtoms (addEach xs (map f (take j l))) → b ≡ f (getD l j noAtom) → old ≡ anyOf (λ a. sameAtom a b) (atomsIn o) →
+      o′ ≡ cond old o (pushAtom o b) → o′ ≡ heldAtoms (addEach xs (map f (take (j + 1) l)))
+  atoms-turn o o′ b old h k eo eb eold e =
+      let ys = addEach xs (map f (take j l)) in
+      let s : length ys < 48 = omega (arith, atoms-short) in
+      let known : old ≡ anyOf (λ a. sameAtom a b) ys = eold ∙ ap (λ (m : List Atom). anyOf (λ a. sameAtom a b) m) (atoms-in ys (omega arith) eo) in
+      e ∙ ap₂ (λ (t : Bool) (m : Atoms). cond t m (pushAtom m b)) known eo ∙ go ys s (anyOf (λ a. sameAtom a b) ys)
+      ∙ ap (λ (a : Atom). heldAtoms (addOne ys a)) eb
+      ∙ ap heldAtoms (sym (ap (addEach xs) (map-more f l j noAtom h) ∙ addEach-more xs (map f (take j l)) (f (getD l j noAtom))))
+    where
+      go : (ys : List Atom) → length ys < 48 → (t : Bool) → cond t (heldAtoms ys) (pushAtom (heldAtoms ys) b) ≡ heldAtoms (cond t ys (ys ++ (b ∷ [])))
+      go ys s true = refl
+      go ys s false = push-atom ys b s
+
+-- ---- literals but one
+
+module _ (xs : List Literal) (f : Literal → Literal) (i : ℕ) (l : List Literal) (j : ℕ) where
+  pub literals-short : length (xs ++ map f (without i (take j l))) ≤ length xs + j
+  literals-short =
+      let ys = without i (take j l) in
+      omega (arith, length-append xs (map f ys), length-map ys f, without-short i (take j l), length-take j l)
+
+  pub literals-turn : (o o′ : Literals) (b : Literal) → j < length l → length xs + j < 16 →
+      o ≡ heldLiterals (xs ++ map f (without i (take j l))) → b ≡ f (getD l j noLiteral) →
+      o′ ≡ cond (eqb j i) o (pushLiteral o b) → o′ ≡ heldLiterals (xs ++ map f (without i (take (j + 1) l)))
+  literals-turn o o′ b h k eo eb e =
+      let n : length (take j l) ≡ j = omega (arith, length-take j l) in
+      let m = getD l j noLiteral in
+      let ys = without i (take j l) in
+      let more : without i (take (j + 1) l) ≡ cond (eqb j i) ys (ys ++ (m ∷ [])) =
+      ap (without i) (take-more l j noLiteral h) ∙ without-more i (take j l) m ∙ ap (λ (k : ℕ). cond (eqb k i) ys (ys ++ (m ∷ []))) n in
+      e ∙ ap₂ (λ (o : Literals) (b : Literal). cond (eqb j i) o (pushLiteral o b)) eo eb ∙ go ys m literals-short (eqb j i)
+      ∙ ap (λ (m : List Literal). heldLiterals (xs ++ map f m)) (sym more)
+    where
+      go : (ys : List Literal) (m : Literal) → length (xs ++ map f ys) ≤ length xs + j → (t : Bool) →
+          cond t (heldLiterals (xs ++ map f ys)) (pushLiteral (heldLiterals (xs ++ map f ys)) (f m)) ≡ heldLiterals (xs ++ map f (cond t ys (ys ++ (m ∷ []))))
+      go ys m s true = refl
+      go ys m s false =
+          push-literal (xs ++ map f ys) (f m) (omega arith)
+          ∙ ap heldLiterals (append-assoc xs (map f ys) _ ∙ ap (λ (r : List Literal). xs ++ r) (sym (map-append f ys (m ∷ []))))
+
+-- ---- names
+
+pub names-turn : (xs l : List ℕ) (j : ℕ) → j < length l → length xs + j < 24 → pushName (heldNames (xs ++ take j l)) (getD l j 0) ≡ heldNames (xs ++ take (j + 1) l)
+names-turn xs l j h k =
+    push-name (xs ++ take j l) (getD l j 0) (omega (arith, length-append xs (take j l), length-take j l))
+    ∙ ap heldNames (append-assoc xs (take j l) _ ∙ ap (λ (m : List ℕ). xs ++ m) (sym (take-more l j 0 h)))
+
+module _ (p : ℕ → Bool) (x : ℕ) where
+  pub kept-short : length (keepIf p (upFrom 1 x)) ≤ x
+  kept-short = omega (arith, keepIf-short p (upFrom 1 x), upFrom-length 1 x)
+
+  pub kept-turn : (o o′ : Names) (b : Bool) → x < 24 → o ≡ heldNames (keepIf p (upFrom 1 x)) → b ≡ p (x + 1) → o′ ≡ cond b (pushName o (x + 1)) o → o′ ≡ heldNames (keepIf p (upFrom 1 (x + 1)))
+  kept-turn o o′ b h eo eb e =
+      let ks = keepIf p (upFrom 1 x) in
+      let more : upFrom 1 (x + 1) ≡ upFrom 1 x ++ ((x + 1) ∷ []) = upFrom-more 1 x ∙ ap (λ (k : ℕ). upFrom 1 x ++ (k ∷ [])) (omega arith) in
+      e ∙ ap₂ (λ (o : Names) (b : Bool). cond b (pushName o (x + 1)) o) eo eb ∙ go ks kept-short (p (x + 1))
+      ∙ ap heldNames (sym (ap (keepIf p) more ∙ keepIf-more p (upFrom 1 x) (x + 1)))
+    where
+      go : (ks : List ℕ) → length ks ≤ x → (t : Bool) → cond t (pushName (heldNames ks) (x + 1)) (heldNames ks) ≡ heldNames (cond t (ks ++ ((x + 1) ∷ [])) ks)
+      go ks s true = push-name ks (x + 1) (omega arith)
+      go ks s false = refl
+
+-- ---- places in a list, from j on
+
+pub index-here : (l : List ℕ) (x j : ℕ) → j < length l → getD l j 0 ≡ x → indexOf x (drop j l) ≡ 0
+index-here l x j h e = rw (drop-cons l j 0 h, eq-eqb x (getD l j 0) (sym e))
+
+pub index-next : (l : List ℕ) (x j : ℕ) → j < length l → (getD l j 0 ≡ x → ⊥) → indexOf x (drop j l) ≡ suc (indexOf x (drop (j + 1) l))
+index-next l x j h n = rw (drop-cons l j 0 h, ne-eqb x (getD l j 0) (λ e. n (sym e)), add-one)
+
+pub index-end : (l : List ℕ) (x j : ℕ) → length l ≤ j → indexOf x (drop j l) ≡ 0
+index-end l x j h = rw (drop-of-length-le l h)
+
+pub closed-past : (ks : List ℕ) (x : ℕ) → (x ≡ 0 → ⊥) → indexOf x (0 ∷ ks) ≡ suc (indexOf x ks)
+closed-past ks x n = rw (ne-eqb x 0 n)

@@ -1,0 +1,4 @@
+-- Laws of merging over arrays, and the proofs of the functions.
+pub mod Held
+pub mod Whole
+pub mod Own

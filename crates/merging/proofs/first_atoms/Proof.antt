@@ -1,0 +1,32 @@
+-- `merging::first_atoms` meets its contract.
+-- What the search leaves follows from the tests passed and from what the calls ensure.
+use mathlib.Core.Path.{_∙_, ap, ap₂}
+use mathlib.Core.List.{List, [], map}
+use Prim.Native.Nat.{ℕ}
+use native.Mathlib.Omega.{arith}
+use borrow.Author.Needs.{needs}
+use Rattle.basis.specs.declared.Atom.{Atom}
+use Rattle.calculus.specs.Clauses.{renameAtom, under}
+use Rattle.clauses.specs.Records.{clauseOf}
+use Rattle.merging.specs.declared.Atoms.{Atoms}
+use Rattle.merging.specs.Scratch.{heldAtoms, addEach}
+use Rattle.merging.proofs.Held.{atoms-in, atoms-held}
+use Rattle.merging.proofs.Whole.{apart-none, addEach-distinct}
+use Rattle.merging.proofs.first_atoms.Statement.{statement}
+use Rattle.merging.proofs.first_atoms.Tie as tie
+
+no-atoms-requires : tie.Need-no-atoms-requires
+no-atoms-requires c κs = search needs
+
+append-atoms-requires : tie.Need-append-atoms-requires
+append-atoms-requires c κs = (atoms-held [] (omega arith) (c .no-atoms .ensures), omega (arith, ap (λ (l : Atoms). l .n) (c .no-atoms .ensures)), search needs)
+
+returns : tie.Need-returns
+returns c =
+    let a = c .before .before .args in
+    let none = atoms-in [] (omega arith) (c .before .no-atoms .ensures) in
+    let xs = clauseOf (a .c) .atoms in
+    c .append-atoms .ensures ∙ ap heldAtoms (ap₂ (λ (l : List Atom) (f : ℕ → ℕ). addEach l (map (renameAtom (λ x. under (a .t) (f x))) xs)) none apart-none ∙ addEach-distinct [] (map (renameAtom (under (a .t))) xs))
+
+pub first-atoms-spec : {M : Type 1} → statement M
+first-atoms-spec = tie.close (tie.spec no-atoms-requires append-atoms-requires returns)

@@ -1,0 +1,27 @@
+-- `merging::first_names` meets its contract.
+-- What the search leaves follows from the tests passed and from what the calls ensure.
+use mathlib.Core.Path.{_∙_, ap}
+use mathlib.Core.List.{List, [], _++_}
+use Prim.Native.Nat.{ℕ}
+use native.Mathlib.Omega.{arith}
+use lib.ListN.{take}
+use borrow.Author.Needs.{needs}
+use Rattle.merging.specs.declared.Names.{Names}
+use Rattle.merging.specs.Scratch.{heldNames}
+use Rattle.merging.proofs.Held.{names-in, names-held}
+use Rattle.merging.proofs.first_names.Statement.{statement}
+use Rattle.merging.proofs.first_names.Tie as tie
+
+no-names-requires : tie.Need-no-names-requires
+no-names-requires c κs = search needs
+
+append-names-requires : tie.Need-append-names-requires
+append-names-requires c κs = (names-held [] (omega arith) (c .no-names .ensures), omega (arith, ap (λ (l : Names). l .n) (c .no-names .ensures)), search needs)
+
+returns : tie.Need-returns
+returns c =
+    let a = c .before .before .args in
+    c .append-names .ensures ∙ ap (λ (l : List ℕ). heldNames (l ++ take (a .u) (a .a))) (names-in [] (omega arith) (c .before .no-names .ensures))
+
+pub first-names-spec : {M : Type 1} → statement M
+first-names-spec = tie.close (tie.spec no-names-requires append-names-requires returns)

@@ -1,0 +1,81 @@
+-- `merging::joined_own` meets its contract.
+-- The invariant: what is made so far is what the definition makes of the elements passed; the measure: how many are left.
+use mathlib.Core.Path.{_≡_, refl, sym, _∙_, ap}
+use mathlib.Core.Bool.{Bool, cond}
+use mathlib.Core.Logic.{⊎-elim}
+use Prim.Native.Nat.{ℕ, _≤_, _-_}
+use native.Mathlib.Omega.{arith}
+use lib.ListN.{getD, take}
+use borrow.Author.Needs.{needs}
+use Rattle.lists.specs.Lists.{pairUp}
+use Rattle.calculus.specs.Clauses.{arguments, noLiteral, renameLiteral}
+use Rattle.calculus.specs.Merging.{joins}
+use Rattle.merging.proofs.Own.{joinedOwn, own-turn}
+use Rattle.merging.proofs.Whole.{apart-none}
+use Rattle.merging.proofs.joined_own.Statement.{statement}
+use Rattle.merging.proofs.joined_own.Tie as tie
+
+abbrev Inv-loop : tie.InvT-loop
+Inv-loop tau l g c n v out₀ j₀ out j = (j ≤ n) × (out ≡ joinedOwn (take v tau) g l (take j (c .literals)) out₀)
+
+abbrev μ-loop : tie.MeasureT-loop
+μ-loop tau l g c n v out₀ j₀ out j = n - j
+
+clause-literals-requires : tie.Need-clause-literals-requires Inv-loop μ-loop
+clause-literals-requires c κs = search needs
+
+loop-holds : tie.Need-loop-holds Inv-loop μ-loop
+loop-holds c = (omega arith, refl)
+
+mul-m : tie.Need-mul-m Inv-loop μ-loop
+mul-m c = search needs
+
+element-copy-out-m : tie.Need-element-copy-out-m Inv-loop μ-loop
+element-copy-out-m c = search needs
+
+is-own-requires : tie.Need-is-own-requires Inv-loop μ-loop
+is-own-requires c κs = search needs
+
+joined-arguments-requires : tie.Need-joined-arguments-requires Inv-loop μ-loop
+joined-arguments-requires c κs = search needs
+
+add-j : tie.Need-add-j Inv-loop μ-loop
+add-j c = search needs
+
+loop-less : tie.Need-loop-less Inv-loop μ-loop
+loop-less c = search needs
+
+loop-again : tie.Need-loop-again Inv-loop μ-loop
+loop-again c =
+    let s = c .before .before .before .before in
+    let a = c .before .before .before .before .before .before .args in
+    let o = s .loop .out in
+    let m = getD (a .t1 .literals) (s .loop .j) noLiteral in
+    let o′ = joins (pairUp (arguments (a .l)) (arguments m)) o in
+    let own = c .before .is-own in
+    let now : c .if1 .out ≡ cond (own .result) o′ o =
+    ⊎-elim
+    (λ w. w .2 ∙ w .1 .ensures ∙ ap (λ (f : ℕ → ℕ). joins (pairUp (arguments (a .l)) (arguments (renameLiteral f m))) o) apart-none ∙ sym (ap (λ (b : Bool). cond b o′ o) (w .0 .taken)))
+    (λ w. w .1 ∙ sym (ap (λ (b : Bool). cond b o′ o) (w .0 .left)))
+    (c .if1 .came) in
+    (omega arith, own-turn (take (a .t1 .variables) (a .tau)) (a .g) (a .l) (a .t1 .literals) (s .loop .j) (a .t) o (c .if1 .out) (own .result) (omega arith) (s .loop .inv .1) (own .ensures) now)
+
+returns : tie.Need-returns Inv-loop μ-loop
+returns c = let e : c .before .loop .j ≡ c .before .before .before .args .t1 .literalcount = omega arith in rw e at (c .before .loop .inv .1)
+
+pub joined-own-spec : {M : Type 1} → statement M
+joined-own-spec =
+    tie.close
+    (tie.spec
+    Inv-loop
+    μ-loop
+    clause-literals-requires
+    loop-holds
+    mul-m
+    element-copy-out-m
+    is-own-requires
+    joined-arguments-requires
+    add-j
+    loop-less
+    loop-again
+    returns)

@@ -1,0 +1,83 @@
+-- `merging::kept` meets its contract.
+-- The invariant: what is made so far is what the definition makes of the elements passed; the measure: how many are left.
+use mathlib.Core.Path.{_≡_, sym, ap}
+use mathlib.Core.Bool.{Bool, cond}
+use Prim.Native.Nat.{_≤_, _-_, _+_}
+use native.Mathlib.Omega.{arith}
+use borrow.Author.Needs.{needs}
+use Rattle.lists.specs.Lists.{keepIf, upFrom}
+use Rattle.calculus.specs.Merging.{occursIn}
+use Rattle.merging.specs.declared.Names.{Names}
+use Rattle.merging.specs.Scratch.{atomsIn, literalsIn, heldNames}
+use Rattle.merging.proofs.Held.{pushName, kept-turn}
+use Rattle.merging.proofs.kept.Statement.{statement}
+use Rattle.merging.proofs.kept.Tie as tie
+
+abbrev Inv-loop : tie.InvT-loop
+Inv-loop az ls v out₀ x₀ out x = (x ≤ v) × (out .n ≤ x) × (out ≡ heldNames (keepIf (occursIn (atomsIn az) (literalsIn ls)) (upFrom 1 x)))
+
+abbrev μ-loop : tie.MeasureT-loop
+μ-loop az ls v out₀ x₀ out x = v - x
+
+no-names-requires : tie.Need-no-names-requires Inv-loop μ-loop
+no-names-requires c κs = search needs
+
+loop-holds : tie.Need-loop-holds Inv-loop μ-loop
+loop-holds c = (omega arith, omega (arith, ap (λ (l : Names). l .n) (c .no-names .ensures)), c .no-names .ensures)
+
+add-y : tie.Need-add-y Inv-loop μ-loop
+add-y c = search needs
+
+occurs-requires : tie.Need-occurs-requires Inv-loop μ-loop
+occurs-requires c κs = search needs
+
+element-write-out : tie.Need-element-write-out Inv-loop μ-loop
+element-write-out c = search needs
+
+add-out : tie.Need-add-out Inv-loop μ-loop
+add-out c = search needs
+
+loop-less : tie.Need-loop-less Inv-loop μ-loop
+loop-less c = search needs
+
+loop-again : tie.Need-loop-again Inv-loop μ-loop
+loop-again c =
+    let s = c .before .before .before in
+    let a = c .before .before .before .before .before .args in
+    let o = s .loop .out in
+    let p = occursIn (atomsIn (a .az)) (literalsIn (a .ls)) in
+    let e = kept-turn p (s .loop .x) o (pushName o (s .loop .x + 1)) (c .before .occurs .result) (omega arith) (s .loop .inv .2) (c .before .occurs .ensures) (sym (ap (λ (t : Bool). cond t (pushName o (s .loop .x + 1)) o) (c .if1 .taken))) in
+    (omega arith, omega arith, e)
+
+loop-less-2 : tie.Need-loop-less-2 Inv-loop μ-loop
+loop-less-2 c = search needs
+
+loop-again-2 : tie.Need-loop-again-2 Inv-loop μ-loop
+loop-again-2 c =
+    let s = c .before .before .before in
+    let a = c .before .before .before .before .before .args in
+    let o = s .loop .out in
+    let p = occursIn (atomsIn (a .az)) (literalsIn (a .ls)) in
+    let e = kept-turn p (s .loop .x) o o (c .before .occurs .result) (omega arith) (s .loop .inv .2) (c .before .occurs .ensures) (sym (ap (λ (t : Bool). cond t (pushName o (s .loop .x + 1)) o) (c .if1 .left))) in
+    (omega arith, omega arith, e)
+
+returns : tie.Need-returns Inv-loop μ-loop
+returns c = let e : c .before .loop .x ≡ c .before .before .before .args .v = omega arith in rw e at (c .before .loop .inv .2)
+
+pub kept-spec : {M : Type 1} → statement M
+kept-spec =
+    tie.close
+    (tie.spec
+    Inv-loop
+    μ-loop
+    no-names-requires
+    loop-holds
+    add-y
+    occurs-requires
+    element-write-out
+    add-out
+    loop-less
+    loop-again
+    loop-less-2
+    loop-again-2
+    returns)

@@ -1,0 +1,13 @@
+-- `merging::no_atoms` meets its contract.
+-- What the search leaves follows from the tests passed and from what the calls ensure.
+use mathlib.Core.Path.{refl}
+use Rattle.lists.specs.Arrays.{exactly}
+use Rattle.merging.proofs.no_atoms.Statement.{statement}
+use Rattle.merging.proofs.no_atoms.Tie as tie
+
+returns : tie.Need-returns
+unfolding exactly
+returns c = refl
+
+pub no-atoms-spec : {M : Type 1} → statement M
+no-atoms-spec = tie.close (tie.spec returns)

@@ -1,0 +1,82 @@
+-- `merging::own_index` meets its contract.
+-- The invariant: what is made so far is what the definition makes of the elements passed; the measure: how many are left.
+use mathlib.Core.Path.{_≡_, refl, sym, _∙_, ap}
+use mathlib.Core.Bool.{Bool, cond}
+use mathlib.Core.Logic.{⊎-elim}
+use Prim.Native.Nat.{_≤_, _-_, _+_, min}
+use native.Mathlib.Omega.{arith}
+use lib.ListN.{take}
+use borrow.Author.Needs.{needs}
+use borrow.Author.Tests.{not-true, not-false}
+use Rattle.merging.proofs.Own.{others, others-few, others-turn, others-done}
+use Rattle.merging.proofs.own_index.Statement.{statement}
+use Rattle.merging.proofs.own_index.Tie as tie
+
+abbrev Inv-loop : tie.InvT-loop
+Inv-loop tau g i c n v end k₀ j₀ k j = (j ≤ end) × (k ≤ j) × (k ≡ others (take v tau) g (take j (c .literals)))
+
+abbrev μ-loop : tie.MeasureT-loop
+μ-loop tau g i c n v end k₀ j₀ k j = end - j
+
+clause-literals-requires : tie.Need-clause-literals-requires Inv-loop μ-loop
+clause-literals-requires c κs = search needs
+
+least-requires : tie.Need-least-requires Inv-loop μ-loop
+least-requires c κs = search needs
+
+loop-holds : tie.Need-loop-holds Inv-loop μ-loop
+loop-holds c = (omega arith, omega arith, refl)
+
+mul-m : tie.Need-mul-m Inv-loop μ-loop
+mul-m c = search needs
+
+element-copy-out-m : tie.Need-element-copy-out-m Inv-loop μ-loop
+element-copy-out-m c = search needs
+
+is-own-requires : tie.Need-is-own-requires Inv-loop μ-loop
+is-own-requires c κs = search needs
+
+add-k : tie.Need-add-k Inv-loop μ-loop
+add-k c = search needs
+
+add-j : tie.Need-add-j Inv-loop μ-loop
+add-j c = search needs
+
+loop-less : tie.Need-loop-less Inv-loop μ-loop
+loop-less c = search needs
+
+loop-again : tie.Need-loop-again Inv-loop μ-loop
+loop-again c =
+    let s = c .before .before .before .before in
+    let a = c .before .before .before .before .before .before .before .args in
+    let k = s .loop .k in
+    let own = c .before .is-own in
+    let now : c .if1 .k ≡ cond (own .result) k (k + 1) =
+    ⊎-elim (λ w. w .1 ∙ sym (ap (λ (b : Bool). cond b k (k + 1)) (not-true (own .result) (w .0 .taken)))) (λ w. w .1 ∙ sym (ap (λ (b : Bool). cond b k (k + 1)) (not-false (own .result) (w .0 .left)))) (c .if1 .came) in
+    let τ = take (a .t1 .variables) (a .tau) in
+    let e = others-turn τ (a .g) (a .t1 .literals) (s .loop .j) k (c .if1 .k) (own .result) (omega arith) (s .loop .inv .2) (own .ensures) now in
+    (omega arith, omega (arith, e, others-few τ (a .g) (a .t1 .literals) (s .loop .j + 1)), e)
+
+returns : tie.Need-returns Inv-loop μ-loop
+returns c =
+    let a = c .before .before .before .before .args in
+    let e : c .before .loop .j ≡ min (a .i) (a .t1 .literalcount) = omega arith in
+    c .before .loop .inv .2 ∙ rw e (others-done (take (a .t1 .variables) (a .tau)) (a .g) (a .i) (a .t1 .literalcount) (a .t1 .literals))
+
+pub own-index-spec : {M : Type 1} → statement M
+own-index-spec =
+    tie.close
+    (tie.spec
+    Inv-loop
+    μ-loop
+    clause-literals-requires
+    least-requires
+    loop-holds
+    mul-m
+    element-copy-out-m
+    is-own-requires
+    add-k
+    add-j
+    loop-less
+    loop-again
+    returns)

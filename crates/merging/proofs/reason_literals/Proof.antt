@@ -1,0 +1,107 @@
+-- `merging::reason_literals` meets its contract.
+-- The invariant: what is made so far is what the definition makes of the elements passed; the measure: how many are left.
+use mathlib.Core.Path.{_≡_, sym, _∙_, ap}
+use mathlib.Core.Bool.{Bool, cond, not, _||_}
+use mathlib.Core.List.{map}
+use mathlib.Core.Logic.{⊎-elim}
+use Prim.Native.Nat.{ℕ, _≤_, _-_, _+_}
+use native.Mathlib.Omega.{arith}
+use lib.Dec.{eqb}
+use lib.ListN.{getD, take, length-map}
+use borrow.Author.Needs.{needs}
+use Rattle.calculus.specs.Clauses.{noLiteral, renameLiteral, under}
+use Rattle.calculus.specs.Merging.{reasonLiterals}
+use Rattle.merging.specs.declared.Literals.{Literals}
+use Rattle.merging.specs.Scratch.{heldLiterals}
+use Rattle.merging.proofs.Held.{pushLiteral}
+use Rattle.merging.proofs.Own.{stay-few, stay-turn}
+use Rattle.merging.proofs.Whole.{apart-none}
+use Rattle.merging.proofs.reason_literals.Statement.{statement}
+use Rattle.merging.proofs.reason_literals.Tie as tie
+
+abbrev Inv-loop : tie.InvT-loop
+Inv-loop tau g i t c n v out₀ j₀ out j = (j ≤ n) × (out .n ≤ j) × (out ≡ heldLiterals (map (renameLiteral (under t)) (reasonLiterals (take v tau) g i (take j (c .literals)))))
+
+abbrev μ-loop : tie.MeasureT-loop
+μ-loop tau g i t c n v out₀ j₀ out j = n - j
+
+clause-literals-requires : tie.Need-clause-literals-requires Inv-loop μ-loop
+clause-literals-requires c κs = search needs
+
+no-literals-requires : tie.Need-no-literals-requires Inv-loop μ-loop
+no-literals-requires c κs = search needs
+
+loop-holds : tie.Need-loop-holds Inv-loop μ-loop
+loop-holds c = (omega arith, omega (arith, ap (λ (l : Literals). l .n) (c .no-literals .ensures)), c .no-literals .ensures)
+
+mul-m : tie.Need-mul-m Inv-loop μ-loop
+mul-m c = search needs
+
+element-copy-out-m : tie.Need-element-copy-out-m Inv-loop μ-loop
+element-copy-out-m c = search needs
+
+literal-by-requires : tie.Need-literal-by-requires Inv-loop μ-loop
+literal-by-requires c κs = search needs
+
+is-own-requires : tie.Need-is-own-requires Inv-loop μ-loop
+is-own-requires c κs = search needs
+
+stays-requires : tie.Need-stays-requires Inv-loop μ-loop
+stays-requires c κs = search needs
+
+mul-b : tie.Need-mul-b Inv-loop μ-loop
+mul-b c = search needs
+
+element-set-from-b : tie.Need-element-set-from-b Inv-loop μ-loop
+element-set-from-b c = search needs
+
+add-out : tie.Need-add-out Inv-loop μ-loop
+add-out c = search needs
+
+add-j : tie.Need-add-j Inv-loop μ-loop
+add-j c = search needs
+
+loop-less : tie.Need-loop-less Inv-loop μ-loop
+loop-less c = search needs
+
+loop-again : tie.Need-loop-again Inv-loop μ-loop
+loop-again c =
+    let s = c .before .before .before .before .before .before in
+    let a = c .before .before .before .before .before .before .before .before .before .args in
+    let o = s .loop .out in
+    let j = s .loop .j in
+    let τ = take (a .t1 .variables) (a .tau) in
+    let f = renameLiteral (under (a .t)) in
+    let b = c .before .before .before .literal-by .result in
+    let k = c .before .stays in
+    let now : c .if1 .out ≡ cond (k .result) (pushLiteral o b) o =
+    ⊎-elim (λ w. w .1 ∙ sym (ap (λ (t : Bool). cond t (pushLiteral o b) o) (w .0 .taken))) (λ w. w .1 ∙ sym (ap (λ (t : Bool). cond t (pushLiteral o b) o) (w .0 .left))) (c .if1 .came) in
+    let eb = c .before .before .before .literal-by .ensures ∙ ap (λ (h : ℕ → ℕ). renameLiteral (λ x. under (a .t) (h x)) (getD (a .t1 .literals) j noLiteral)) apart-none in
+    let es = k .ensures ∙ ap (λ (t : Bool). eqb j (a .i) || not t) (c .before .before .is-own .ensures) in
+    let e = stay-turn τ (a .g) f (a .i) (a .t1 .literals) j o (c .if1 .out) b (k .result) (omega arith) (omega arith) (s .loop .inv .2) eb es now in
+    (omega arith, omega (arith, ap (λ (l : Literals). l .n) e, length-map (reasonLiterals τ (a .g) (a .i) (take (j + 1) (a .t1 .literals))) f, stay-few τ (a .g) (a .i) (a .t1 .literals) (j + 1)), e)
+
+returns : tie.Need-returns Inv-loop μ-loop
+returns c = let e : c .before .loop .j ≡ c .before .before .before .before .args .t1 .literalcount = omega arith in rw e at (c .before .loop .inv .2)
+
+pub reason-literals-spec : {M : Type 1} → statement M
+reason-literals-spec =
+    tie.close
+    (tie.spec
+    Inv-loop
+    μ-loop
+    clause-literals-requires
+    no-literals-requires
+    loop-holds
+    mul-m
+    element-copy-out-m
+    literal-by-requires
+    is-own-requires
+    stays-requires
+    mul-b
+    element-set-from-b
+    add-out
+    add-j
+    loop-less
+    loop-again
+    returns)

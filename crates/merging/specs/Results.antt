@@ -1,0 +1,41 @@
+-- The records that merging gives back, from the calculus's reason, resolvent and factored conflict.
+use mathlib.Core.List.{List}
+use mathlib.Core.Bool.{true, false, _&&_, cond}
+use Prim.Native.Nat.{ℕ}
+use lib.ListN.{take}
+use Rattle.calculus.specs.Class.{withinLimits}
+use Rattle.calculus.specs.Merging.{reason, resolvent, factored}
+use Rattle.clauses.specs.declared.Clause.{Clause}
+use Rattle.clauses.specs.declared.Instanced.{Instanced}
+use Rattle.clauses.specs.Records.{clauseOf, instancedOf, packedInstanced, counted}
+use Rattle.merging.specs.declared.Merged.{Merged}
+use Rattle.merging.specs.declared.Reason.{Reason}
+use Rattle.calculus.specs.Clauses as calculus
+use Rattle.calculus.specs.Merging as merging
+
+-- No clause: one that is too large, or that was to be made from records whose counts are above the limits
+abbrev pub tooLarge : Merged
+tooLarge = record { fits = false; of = packedInstanced calculus.noInstanced }
+
+-- "No room: clause limits counted after merging."
+unfoldable pub fitted : calculus.Instanced → Merged
+fitted N = cond (withinLimits (N .clause)) (record { fits = true; of = packedInstanced N }) tooLarge
+
+-- The conflict n resolved at its literal j with the reason r at its literal i, both from 0
+unfoldable pub resolved : Instanced → ℕ → Instanced → ℕ → Merged
+resolved n j r i = cond (counted (n .clause) && counted (r .clause)) (fitted (resolvent (instancedOf n) j (instancedOf r) i)) tooLarge
+
+-- The conflict n with its literals i and j, from 0, made one
+unfoldable pub factorized : Instanced → ℕ → ℕ → Merged
+factorized n i j = cond (counted (n .clause)) (fitted (factored (instancedOf n) i j)) tooLarge
+
+-- A reason, and none where the clause's counts are above the limits
+abbrev pub packedReason : merging.Reason → Reason
+packedReason R = record { of = packedInstanced (R .of); own = R .own }
+
+abbrev pub noReason : Reason
+noReason = record { of = packedInstanced calculus.noInstanced; own = 0 }
+
+-- The reason that clause c with its literal i, from 0, and the instance τ gives. It is never larger than the clause.
+unfoldable pub reasonOf : Clause → ℕ → List ℕ → Reason
+reasonOf c i τ = cond (counted c) (packedReason (reason (clauseOf c) i (take (c .variables) τ))) noReason

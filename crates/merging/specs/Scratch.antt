@@ -1,0 +1,50 @@
+-- The lists that merging works on: twice as long as a clause's, since two clauses are merged before the limits are counted.
+use mathlib.Core.List.{List, [], _∷_, _++_}
+use mathlib.Core.Bool.{cond}
+use Prim.Native.Nat.{ℕ}
+use lib.ListN.{length, take}
+use Rattle.basis.specs.declared.Atom.{Atom}
+use Rattle.basis.specs.declared.Literal.{Literal}
+use Rattle.basis.specs.Atoms.{noAtom}
+use Rattle.lists.specs.Lists.{anyOf, indexOf}
+use Rattle.lists.specs.Arrays.{exactly}
+use Rattle.calculus.specs.Clauses.{noLiteral, sameAtom, under}
+use Rattle.calculus.specs.Merging.{apart}
+use Rattle.merging.specs.declared.Atoms.{Atoms}
+use Rattle.merging.specs.declared.Literals.{Literals}
+use Rattle.merging.specs.declared.Names.{Names}
+
+abbrev pub atomsIn : Atoms → List Atom
+atomsIn l = take (l .n) (l .at)
+
+abbrev pub literalsIn : Literals → List Literal
+literalsIn l = take (l .n) (l .at)
+
+abbrev pub namesIn : Names → List ℕ
+namesIn l = take (l .n) (l .at)
+
+-- A list held, blank past its end
+abbrev pub heldAtoms : List Atom → Atoms
+heldAtoms xs = record { n = length xs; at = exactly 48 noAtom xs }
+
+abbrev pub heldLiterals : List Literal → Literals
+heldLiterals xs = record { n = length xs; at = exactly 16 noLiteral xs }
+
+abbrev pub heldNames : List ℕ → Names
+heldNames xs = record { n = length xs; at = exactly 24 0 xs }
+
+-- What the table t has for variable x of a clause whose variables follow v others
+abbrev pub through : List ℕ → ℕ → ℕ → ℕ
+through t v x = under t (apart v x)
+
+-- An atom put at the end where it is new, and several, one after the other
+abbrev pub addOne : List Atom → Atom → List Atom
+addOne xs b = cond (anyOf (λ a. sameAtom a b) xs) xs (xs ++ (b ∷ []))
+
+abbrev pub addEach : List Atom → List Atom → List Atom
+addEach xs [] = xs
+addEach xs (b ∷ bs) = addEach (addOne xs b) bs
+
+-- The new number of variable x where the variables ks are kept
+abbrev pub closed : List ℕ → ℕ → ℕ
+closed ks x = indexOf x (0 ∷ ks)
