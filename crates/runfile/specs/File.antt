@@ -102,19 +102,23 @@ instance = count mostVariables then λ n. times n byte
 
 -- The arguments of a rule "in the order above"
 unfoldable pub ruled : ℕ → Reader Step
-ruled rule =
-    cond (eqb rule 1) (byte then λ c. byte then λ l. instance then λ τ. give (Propagate c l τ))
-    (cond (eqb rule 2) (byte then λ c. byte then λ l. within 0 1 then λ sign. instance then λ τ. give (Decide c l sign τ))
-    (cond (eqb rule 3) (byte then λ c. instance then λ τ. give (Conflict c τ))
-    (cond (eqb rule 4) (byte then λ l. give (Resolve l))
-    (cond (eqb rule 5) (byte then λ l. byte then λ m. give (Factorize l m))
-    (cond (eqb rule 6) (give Skip)
-    (cond (eqb rule 7) (byte then λ l. give (Backtrack l))
+ruled r =
+    cond (eqb r 1) (byte then λ c. byte then λ l. instance then λ τ. give (Propagate c l τ))
+    (cond (eqb r 2) (byte then λ c. byte then λ l. within 0 1 then λ sign. instance then λ τ. give (Decide c l sign τ))
+    (cond (eqb r 3) (byte then λ c. instance then λ τ. give (Conflict c τ))
+    (cond (eqb r 4) (byte then λ l. give (Resolve l))
+    (cond (eqb r 5) (byte then λ l. byte then λ m. give (Factorize l m))
+    (cond (eqb r 6) (give Skip)
+    (cond (eqb r 7) (byte then λ l. give (Backtrack l))
     (byte then λ n. give (Grow n))))))))
 
--- "Each step: rule number and its arguments"; "7: unknown rule"
+-- "7: unknown rule"
+abbrev pub rule : Reader ℕ
+rule = byte judged λ n. between 1 8 n or unknownRule ∷ []
+
+-- "Each step: rule number and its arguments"
 unfoldable pub step : Reader Step
-step = byte judged (λ rule. between 1 8 rule or unknownRule ∷ []) then ruled
+step = rule then ruled
 
 -- ---- the file
 
@@ -122,9 +126,20 @@ step = byte judged (λ rule. between 1 8 rule or unknownRule ∷ []) then ruled
 abbrev pub letters : List ℕ
 letters = 68 ∷ 82 ∷ 70 ∷ []
 
+-- "2: mark or version wrong"
+abbrev pub mark : Reader (List ℕ)
+mark = field 3 judged λ b. sameList b letters or wrongMark ∷ []
+
+-- "Version 1 (16 bits)"
+abbrev pub version : Reader ℕ
+version = number 2 judged λ n. eqb n 1 or wrongMark ∷ []
+
 -- "The number of steps (16 bits, at most 2,000)"
 abbrev pub mostSteps : ℕ
 mostSteps = 2000
+
+abbrev pub stepCount : Reader ℕ
+stepCount = number 2 judged λ n. leb n mostSteps or aboveLimit ∷ []
 
 -- What stands before the first step, the number of steps included
 pub record Header : Type 0 where
@@ -136,14 +151,14 @@ pub record Header : Type 0 where
 -- "The three letters DRF, version 1 (16 bits); constants; predicates and an arity each; input clauses .. Then the number of steps"
 unfoldable pub header : Reader Header
 header =
-    field 3 judged (λ b. sameList b letters or wrongMark ∷ []) then λ _.
-    number 2 judged (λ n. eqb n 1 or wrongMark ∷ []) then λ _.
+    mark then λ _.
+    version then λ _.
     count mostConstants then λ constants.
     count mostPredicates then λ n.
     times n (count mostArguments) then λ arities.
     count mostInput then λ m.
     times m (clause arities) then λ cs.
-    number 2 judged (λ n. leb n mostSteps or aboveLimit ∷ []) then λ t.
+    stepCount then λ t.
     give (record { constants = constants; arities = arities; input = cs; count = t })
 
 -- "8: bytes after the last step"
