@@ -1,0 +1,3 @@
+-- Laws of the walks over variables and atoms.
+pub mod Counting
+pub mod Bounds

@@ -1,0 +1,13 @@
+-- `classes::above` meets its contract.
+use borrow.Author.Tests.{eq-eqb, ne-eqb}
+use Rattle.classes.proofs.above.Statement.{statement}
+use Rattle.classes.proofs.above.Tie as tie
+
+returns : tie.Need-returns
+returns c = simp (ne-eqb _ _ (c .if1 .taken))
+
+returns-2 : tie.Need-returns-2
+returns-2 c = simp (eq-eqb _ _ (c .before .if1 .left))
+
+pub above-spec : {M : Type 1} → statement M
+above-spec = tie.close (tie.spec returns returns-2)

@@ -1,0 +1,2 @@
+-- A part of the clause class's test.
+pub mod Tests
