@@ -1,4 +1,5 @@
 -- The laws and proofs behind the calculus's theorems. Nothing here has to be read to believe them.
+
 pub mod Merged
 pub mod Instances
 pub mod Truths
@@ -6,6 +7,7 @@ pub mod Derived
 pub mod OnTrail
 pub mod Cuts
 pub mod Answers
+pub mod Reasons
 pub mod Conditions
 pub mod Admitting
 pub mod Trails

@@ -16,10 +16,10 @@ use Rattle.calculus.specs.Clauses.{Instanced, ground, noLiteral, sameAto
 use Rattle.calculus.specs.Merges.{AtomsOnce, Instance, LargerGoes, MergedInGroups, NoneTwice, OldThenReasons}
 use Rattle.calculus.specs.Merging.{distinct, join, joins}
 use Rattle.calculus.proofs.Class.{placed}
-use Rattle.calculus.proofs.Conditions.{between-says}
 use Rattle.calculus.proofs.Derived.{factored-literals, resolvent-literals}
 use Rattle.calculus.proofs.Instances.{Sized, swap-fix, upFrom-under}
 use Rattle.calculus.proofs.Merged.{distinct-in, distinct-out, joins-meet, sameAtom-refl, swap, under-join}
+use Rattle.calculus.proofs.Reasons.{between-says}
 
 -- ---- groups
 

@@ -17,7 +17,7 @@ use Rattle.calculus.specs.Rules.{Answer, Judged, asks, next, question}
 use Rattle.calculus.specs.States.{Backtrack, Conflict, Decide, Factorize, Grow, Propagate, Resolve, Skip, State, Step, Unknown, clauseAt, clauses}
 use Rattle.calculus.specs.Trails.{Trail}
 
--- "The answer is unique."
+-- The promises are strong enough "that the answer is unique".
 abbrev pub AnswerUnique : Numbers → Type 0
 AnswerUnique N = (s : State) (x : Step) (a b : Answer) → Judged N s x a → Judged N s x b → a ≡ b
 

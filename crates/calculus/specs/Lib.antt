@@ -10,6 +10,7 @@ pub mod Rules
 pub mod OnTrail
 pub mod Cuts
 pub mod Conditions
+pub mod Reasons
 pub mod Answers
 pub mod Admitting
 pub mod Truth

@@ -1,28 +1,34 @@
 // Clause records, their blanks, equality of atoms and literals, complements and ground instances.
 // Slots past a count are blank in every record that is made here or above, so that equal clauses are equal values.
 ghost use mathlib.Core.Path.{_≡_};
+ghost use mathlib.Core.Bool.{_||_};
+ghost use lib.Dec.{eqb};
 ghost use lib.ListN.{take};
 ghost use Rattle.basis.specs.Atoms.{noAtom};
-ghost use Rattle.calculus.specs.Clauses.{noLiteral, noClause, noInstanced, sameAtom, sameLiteral, renameAtom, under};
+ghost use Rattle.lists.specs.Lists.{anyOf};
+ghost use Rattle.calculus.specs.Clauses.{arguments, noLiteral, noClause, noInstanced, sameAtom, sameLiteral, renameAtom, under};
 ghost use Rattle.calculus.specs.Clauses as calculus;
 ghost use Rattle.clauses.specs.Records.{packed, packedInstanced};
 ghost use Rattle.clauses.specs.Records as records;
 use basis::Atom;
 use basis::Literal;
+use basis::MOST_ATOMS;
+use basis::MOST_LITERALS;
+use basis::MOST_VARIABLES;
 
 // "A clause is a record of at most 12 variables, 24 atoms and 8 literals."
 pub struct Clause {
     pub variables: u8,
     pub atomcount: u8,
     pub literalcount: u8,
-    pub atoms: [Atom; 24],
-    pub literals: [Literal; 8],
+    pub atoms: [Atom; MOST_ATOMS],
+    pub literals: [Literal; MOST_LITERALS],
 }
 
 // A clause with a constant for each of its variables
 pub struct Instanced {
     pub clause: Clause,
-    pub instance: [u8; 12],
+    pub instance: [u8; MOST_VARIABLES],
 }
 
 // The blank atom
@@ -57,8 +63,8 @@ pub fn no_clause() -> Clause
         y: 0,
         z: 0,
     };
-    let atoms = [a; 24];
-    let literals = [l; 8];
+    let atoms = [a; MOST_ATOMS];
+    let literals = [l; MOST_LITERALS];
     Clause {
         variables: 0,
         atomcount: 0,
@@ -73,7 +79,7 @@ pub fn no_instanced() -> Instanced
     ensures { λ r. ⌜ r ≡ packedInstanced noInstanced ⌝ }
 {
     let clause = no_clause();
-    let instance = [0u8; 12];
+    let instance = [0u8; MOST_VARIABLES];
     Instanced {
         clause: clause,
         instance: instance,
@@ -113,6 +119,32 @@ pub fn same_literal(a: Literal, b: Literal) -> bool
     true
 }
 
+// Whether variable x stands in the atom
+pub fn in_atom(a: Atom, x: u8) -> bool
+    ensures { λ r. ⌜ r ≡ (eqb x (a .p) || eqb x (a .q)) ⌝ }
+{
+    if x == a.p {
+        return true;
+    }
+    x == a.q
+}
+
+// Whether variable x is an argument of the literal
+pub fn in_literal(l: Literal, x: u8) -> bool
+    ensures { λ r. ⌜ r ≡ anyOf (eqb x) (arguments l) ⌝ }
+{
+    if x == l.x {
+        return true;
+    }
+    if x == l.y {
+        return true;
+    }
+    if x == l.z {
+        return true;
+    }
+    false
+}
+
 pub fn complement(l: Literal) -> Literal
     ensures { λ r. ⌜ r ≡ calculus.complement l ⌝ }
 {
@@ -122,7 +154,7 @@ pub fn complement(l: Literal) -> Literal
 }
 
 // The constant that the first n of an instance have for variable x; 0 for place 0, and past them
-pub fn constant_of(instance: [u8; 12], n: u8, x: u8) -> u8
+pub fn constant_of(instance: [u8; MOST_VARIABLES], n: u8, x: u8) -> u8
     ensures { λ r. ⌜ r ≡ under (take n instance) x ⌝ }
 {
     if x == 0 {
@@ -132,14 +164,14 @@ pub fn constant_of(instance: [u8; 12], n: u8, x: u8) -> u8
         return 0;
     }
     let k = x as usize - 1;
-    if k < 12 {
+    if k < MOST_VARIABLES {
         return instance[k];
     }
     0
 }
 
 // A literal's instance under the first n constants
-pub fn ground(l: Literal, instance: [u8; 12], n: u8) -> Literal
+pub fn ground(l: Literal, instance: [u8; MOST_VARIABLES], n: u8) -> Literal
     ensures { λ r. ⌜ r ≡ calculus.ground (take n instance) l ⌝ }
 {
     let x = constant_of(instance, n, l.x);
@@ -153,7 +185,7 @@ pub fn ground(l: Literal, instance: [u8; 12], n: u8) -> Literal
 }
 
 // An atom's instance under the first n constants
-pub fn ground_atom(a: Atom, instance: [u8; 12], n: u8) -> Atom
+pub fn ground_atom(a: Atom, instance: [u8; MOST_VARIABLES], n: u8) -> Atom
     ensures { λ r. ⌜ r ≡ renameAtom (under (take n instance)) a ⌝ }
 {
     let p = constant_of(instance, n, a.p);
@@ -168,11 +200,11 @@ pub fn ground_atom(a: Atom, instance: [u8; 12], n: u8) -> Atom
 pub fn counted(c: Clause) -> bool
     ensures { λ r. ⌜ r ≡ records.counted c ⌝ }
 {
-    if 12 < c.variables {
+    if MOST_VARIABLES < c.variables as usize {
         return false;
     }
-    if 24 < c.atomcount {
+    if MOST_ATOMS < c.atomcount as usize {
         return false;
     }
-    c.literalcount <= 8
+    c.literalcount as usize <= MOST_LITERALS
 }

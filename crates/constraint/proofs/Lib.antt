@@ -1,7 +1,6 @@
 -- Why the constraint test is right: unique answers, no overflow, and the square step by step.
 pub mod Unique
 pub mod Sums
-pub mod Rows
 pub mod Stands
 pub mod Bare
 pub mod Steps

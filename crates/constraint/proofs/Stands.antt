@@ -1,4 +1,4 @@
--- A square that stands for Q: its values, a bound that can not be put in, and one that is.
+-- A row that stays as it is; and a square that stands for Q: its values, a bound that can not be put in, and one that is.
 use mathlib.Core.Path.{_≡_, sym, ap, subst}
 use mathlib.Core.Bool.{true, false}
 use mathlib.Core.List.{List}
@@ -6,16 +6,22 @@ use mathlib.Core.Logic.{_↔_}
 use Prim.Native.Nat.{ℕ, _+_, _≤_, _<_}
 use native.Mathlib.Omega.{arith}
 use lib.IntN.{ℤ, pos, _+ℤ_}
-use lib.Signed.{_≤ℤ_, ltZ}
+use lib.Signed.{_≤ℤ_, ltZ, ≤ℤ-refl}
 use Rattle.integers.specs.Sides.{over, under, Within}
 use Rattle.integers.proofs.Linear.{le→, sum}
+use Rattle.integers.proofs.Order.{≤ℤ-trans, +ℤ-mono}
 use Rattle.bounds.specs.Whole.{wholeBounds}
-use Rattle.bounds.specs.Squares.{Keeps, Closed, put, values}
-use Rattle.bounds.proofs.Lower.{lower-right}
+use Rattle.bounds.specs.Squares.{Keeps, Closed, lower, put, values}
+use Rattle.bounds.proofs.Lower.{lower-right, lower-idle}
 use Rattle.bounds.proofs.Put.{put-exact, put-none, put-closed}
 use Rattle.bounds.proofs.Same.{closed-same, keeps-same}
 use Rattle.bounds.proofs.Values.{values-largest}
-use Rattle.constraint.specs.Square.{places, far, entry, Stands}
+use Rattle.constraint.specs.Square.{places, far, entry, Sound, Stands}
+
+-- A row of a sound square to which nothing lower comes at q.
+pub row-stays : {t : List (List ℤ)} → Sound t → (i q : ℕ) (start : ℤ) → i < places → q < places → entry t i q ≤ℤ start →
+    (j : ℕ) → j < places → entry t i j ≡ lower wholeBounds (start +ℤ entry t q j) (entry t i j)
+row-stays {t} S i q start hi hq h j hj = sym (lower-idle wholeBounds (start +ℤ entry t q j) (entry t i j) (≤ℤ-trans (S .closed .through i q j hi hq hj) (+ℤ-mono h (≤ℤ-refl (entry t q j)))))
 
 -- The same square, said in another way.
 pub stands-as : {Q R : (ℕ → ℤ) → Type 0} {t : List (List ℤ)} → Stands Q t → ((v : ℕ → ℤ) → Q v ↔ R v) → Stands R t

@@ -1,3 +1,5 @@
+// The constraint test. It works on a square of bounds between every two of 17 places, closed after each bound that is put in:
+// the order of the constants first, then the atoms one by one, until one closes a chain below zero or all are in.
 ghost use mathlib.Core.Path.{_≡_};
 ghost use Prim.Native.Nat.{ℕ, _<_, _≤_};
 ghost use lib.ListN.{take};
@@ -11,7 +13,7 @@ ghost use Rattle.integers.specs.Sides.{Within};
 ghost use Rattle.bounds.specs.Whole.{wholeBounds};
 ghost use Rattle.bounds.specs.Squares.{lower, put};
 ghost use Rattle.constraint.specs.Test.{Accepted, Says};
-ghost use Rattle.constraint.specs.Square.{places, mostBound, far, mostChain, at, entry, Rows, Sound, Stands, Near, Ordered, FirstImproper};
+ghost use Rattle.constraint.specs.Square.{places, mostBound, far, mostChain, at, entry, Sound, Stands, Near, Ordered, FirstImproper};
 use basis::ABOVE_LIMIT;
 use basis::Atom;
 use basis::MOST_C;
@@ -57,35 +59,22 @@ fn lowered_row(row: [i64; PLACES], via: [i64; PLACES], start: i64) -> [i64; PLAC
     out
 }
 
-// The row with value p - value q at most c put in, `via` being the row of q. It stays as it is where nothing new comes to q.
-fn put_row(row: [i64; PLACES], via: [i64; PLACES], p: usize, q: usize, c: i64) -> [i64; PLACES]
-    requires { ⌜ (p < places) × (q < places) × Within mostBound c × Rows row via q ⌝ }
-    ensures { λ r. ⌜ ((j : ℕ) → j < places → at r j ≡ lower wholeBounds ((at row p +ℤ c) +ℤ at via j) (at row j)) ⌝ }
-{
-    let start = row[p] + c;
-    if row[q] <= start {
-        return row;
-    }
-    lowered_row(row, via, start)
-}
-
-// The square with value p - value q at most c put in. It stays as it is where it has that bound already.
-fn put_bound(t: [[i64; PLACES]; PLACES], p: usize, q: usize, c: i64) -> [[i64; PLACES]; PLACES]
+// The square with value p - value q at most c put in. A row to which nothing lower comes at q stays as it is.
+fn put_bound(mut t: [[i64; PLACES]; PLACES], p: usize, q: usize, c: i64) -> [[i64; PLACES]; PLACES]
     requires { ⌜ (p < places) × (q < places) × Within mostBound c × Sound t ⌝ }
     ensures { λ r. ⌜ ((i j : ℕ) → i < places → j < places → entry r i j ≡ put wholeBounds (entry t) p q c i j) ⌝ }
 {
-    if t[p][q] <= c {
-        return t;
-    }
-    let mut out = t;
     let via = t[q];
     let mut i = 0;
     while i < PLACES {
-        let row = out[i];
-        out[i] = put_row(row, via, p, q, c);
+        let start = t[i][p] + c;
+        if start < t[i][q] {
+            let row = t[i];
+            t[i] = lowered_row(row, via, start);
+        }
         i += 1;
     }
-    out
+    t
 }
 
 // The square of no order and no atoms: no two values further apart than FAR.
@@ -147,8 +136,10 @@ fn kept(constants: usize, count: usize, atoms: [Atom; MOST_TESTED]) -> bool
         if below_zero(c, back) {
             return false;
         }
-        let tighter = put_bound(t, p, q, c);
-        t = tighter;
+        if c < t[p][q] {
+            let tighter = put_bound(t, p, q, c);
+            t = tighter;
+        }
         k += 1;
     }
     true

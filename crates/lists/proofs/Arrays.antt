@@ -1,10 +1,11 @@
 -- Laws of a list held in an array, and of an array changed slot by slot.
-use mathlib.Core.Path.{_≡_, refl, _∙_, ap, ap₂}
-use mathlib.Core.List.{List, [], _∷_, _++_, map}
-use Prim.Native.Nat.{ℕ, zero, suc, _+_, _≤_, _<_}
-use native.Mathlib.Omega.{arith}
+use mathlib.Core.Path.{_∙_, _≡_, ap, refl, sym}
+use mathlib.Core.List.{List, [], _++_, _∷_, map}
+use Prim.Native.Nat.{_+_, _<_, _≤_, suc, zero, ℕ}
 use native.Mathlib.Numerals.{add-one}
-use lib.ListN.{length, getD, set, take, drop, replicate, List·getD-eq-default}
+use native.Mathlib.Omega.{arith}
+use lib.ListN.{drop, getD, length, length-map, length-take, replicate, set, take}
+use Rattle.lists.proofs.Walks.{map-more, take-more}
 use Rattle.lists.specs.Arrays.{exactly}
 
 module _ {A : Type 0} (d : A) where
@@ -41,6 +42,13 @@ module _ {A : Type 0} (d : A) where
   set-exactly (suc n) [] x h = refl
   set-exactly (suc n) (y ∷ l) x h = ap {B = List A} (λ r. y ∷ r) (set-exactly n l x (omega arith))
 
+  -- The last element taken out again
+  pub unset-exactly : (n : ℕ) (l : List A) (x : A) → set (exactly n d (l ++ (x ∷ []))) (length l) d ≡ exactly n d l
+  unfolding exactly
+  unset-exactly zero l x = refl
+  unset-exactly (suc n) [] x = refl
+  unset-exactly (suc n) (y ∷ l) x = ap {B = List A} (λ r. y ∷ r) (unset-exactly n l x)
+
   pub getD-exactly : (n : ℕ) (l : List A) (i : ℕ) → i < n → getD (exactly n d l) i d ≡ getD l i d
   unfolding exactly
   getD-exactly zero l i h = absurd (omega arith)
@@ -65,7 +73,23 @@ module _ {A : Type 0} (d : A) where
   map-exactly {B} f (suc n) [] = ap {B = List B} (λ r. f d ∷ r) (map-exactly f n [])
   map-exactly {B} f (suc n) (x ∷ l) = ap {B = List B} (λ r. f x ∷ r) (map-exactly f n l)
 
--- An array changed slot by slot
+-- ---- an array filled from another, slot by slot
+
+module _ {A B : Type 0} (f : A → B) where
+  pub mapped-turn : (n : ℕ) (d : B) (e : A) (l : List A) (j : ℕ) → j < length l → j < n →
+      set (exactly n d (map f (take j l))) j (f (getD l j e)) ≡ exactly n d (map f (take (j + 1) l))
+  mapped-turn n d e l j h k =
+      let s : length (map f (take j l)) ≡ j = omega (arith, length-map (take j l) f, length-take j l) in
+      ap (λ (i : ℕ). set (exactly n d (map f (take j l))) i (f (getD l j e))) (sym s)
+      ∙ set-exactly d n (map f (take j l)) (f (getD l j e)) (omega arith) ∙ ap (exactly n d) (sym (map-more f l j e h))
+
+pub copied-turn : {A : Type 0} (n : ℕ) (d : A) (l : List A) (j : ℕ) → j < length l → j < n → set (exactly n d (take j l)) j (getD l j d) ≡ exactly n d (take (j + 1) l)
+copied-turn n d l j h k =
+    let s : length (take j l) ≡ j = omega (arith, length-take j l) in
+    ap (λ (i : ℕ). set (exactly n d (take j l)) i (getD l j d)) (sym s) ∙ set-exactly d n (take j l) (getD l j d) (omega arith) ∙ ap (exactly n d) (sym (take-more l j d h))
+
+-- ---- an array changed slot by slot
+
 module _ {A : Type 0} (f : A → A) where
   turn : (t : List A) (j : ℕ) (d : A) → j < length t → set (map f (take j t) ++ drop j t) j (f (getD t j d)) ≡ map f (take (suc j) t) ++ drop (suc j) t
   turn (x ∷ t) zero d h = refl

@@ -20,26 +20,26 @@ use Rattle.calculus.specs.Clauses.{noLiteral, sameAtom}
 use Rattle.merging.specs.declared.Atoms.{Atoms}
 use Rattle.merging.specs.declared.Literals.{Literals}
 use Rattle.merging.specs.declared.Names.{Names}
-use Rattle.merging.specs.Scratch.{atomsIn, literalsIn, namesIn, heldAtoms, heldLiterals, heldNames, addOne, addEach}
+use Rattle.merging.specs.Scratch.{bothVariables, bothAtoms, bothLiterals, atomsIn, literalsIn, namesIn, heldAtoms, heldLiterals, heldNames, addOne, addEach}
 
 -- ---- what is held can be read back
 
-pub atoms-in : {l : Atoms} (xs : List Atom) → length xs ≤ 48 → l ≡ heldAtoms xs → atomsIn l ≡ xs
-atoms-in xs h e = ap atomsIn e ∙ take-exactly noAtom 48 xs h
+pub atoms-in : {l : Atoms} (xs : List Atom) → length xs ≤ bothAtoms → l ≡ heldAtoms xs → atomsIn l ≡ xs
+atoms-in xs h e = ap atomsIn e ∙ take-exactly noAtom bothAtoms xs h
 
-pub literals-in : {l : Literals} (xs : List Literal) → length xs ≤ 16 → l ≡ heldLiterals xs → literalsIn l ≡ xs
-literals-in xs h e = ap literalsIn e ∙ take-exactly noLiteral 16 xs h
+pub literals-in : {l : Literals} (xs : List Literal) → length xs ≤ bothLiterals → l ≡ heldLiterals xs → literalsIn l ≡ xs
+literals-in xs h e = ap literalsIn e ∙ take-exactly noLiteral bothLiterals xs h
 
-pub names-in : {l : Names} (xs : List ℕ) → length xs ≤ 24 → l ≡ heldNames xs → namesIn l ≡ xs
-names-in xs h e = ap namesIn e ∙ take-exactly 0 24 xs h
+pub names-in : {l : Names} (xs : List ℕ) → length xs ≤ bothVariables → l ≡ heldNames xs → namesIn l ≡ xs
+names-in xs h e = ap namesIn e ∙ take-exactly 0 bothVariables xs h
 
-pub atoms-held : {l : Atoms} (xs : List Atom) → length xs ≤ 48 → l ≡ heldAtoms xs → l ≡ heldAtoms (atomsIn l)
+pub atoms-held : {l : Atoms} (xs : List Atom) → length xs ≤ bothAtoms → l ≡ heldAtoms xs → l ≡ heldAtoms (atomsIn l)
 atoms-held xs h e = e ∙ ap heldAtoms (sym (atoms-in xs h e))
 
-pub literals-held : {l : Literals} (xs : List Literal) → length xs ≤ 16 → l ≡ heldLiterals xs → l ≡ heldLiterals (literalsIn l)
+pub literals-held : {l : Literals} (xs : List Literal) → length xs ≤ bothLiterals → l ≡ heldLiterals xs → l ≡ heldLiterals (literalsIn l)
 literals-held xs h e = e ∙ ap heldLiterals (sym (literals-in xs h e))
 
-pub names-held : {l : Names} (xs : List ℕ) → length xs ≤ 24 → l ≡ heldNames xs → l ≡ heldNames (namesIn l)
+pub names-held : {l : Names} (xs : List ℕ) → length xs ≤ bothVariables → l ≡ heldNames xs → l ≡ heldNames (namesIn l)
 names-held xs h e = e ∙ ap heldNames (sym (names-in xs h e))
 
 -- ---- one more is stored
@@ -53,14 +53,14 @@ pushLiteral l b = record { n = l .n + 1; at = set (l .at) (l .n) b }
 abbrev pub pushName : Names → ℕ → Names
 pushName l b = record { n = l .n + 1; at = set (l .at) (l .n) b }
 
-push-atom : (xs : List Atom) (b : Atom) → length xs < 48 → pushAtom (heldAtoms xs) b ≡ heldAtoms (xs ++ (b ∷ []))
-push-atom xs b h = λ i. record { n = sym (length-append xs (b ∷ [])) i; at = set-exactly noAtom 48 xs b h i }
+push-atom : (xs : List Atom) (b : Atom) → length xs < bothAtoms → pushAtom (heldAtoms xs) b ≡ heldAtoms (xs ++ (b ∷ []))
+push-atom xs b h = λ i. record { n = sym (length-append xs (b ∷ [])) i; at = set-exactly noAtom bothAtoms xs b h i }
 
-pub push-literal : (xs : List Literal) (b : Literal) → length xs < 16 → pushLiteral (heldLiterals xs) b ≡ heldLiterals (xs ++ (b ∷ []))
-push-literal xs b h = λ i. record { n = sym (length-append xs (b ∷ [])) i; at = set-exactly noLiteral 16 xs b h i }
+pub push-literal : (xs : List Literal) (b : Literal) → length xs < bothLiterals → pushLiteral (heldLiterals xs) b ≡ heldLiterals (xs ++ (b ∷ []))
+push-literal xs b h = λ i. record { n = sym (length-append xs (b ∷ [])) i; at = set-exactly noLiteral bothLiterals xs b h i }
 
-push-name : (xs : List ℕ) (b : ℕ) → length xs < 24 → pushName (heldNames xs) b ≡ heldNames (xs ++ (b ∷ []))
-push-name xs b h = λ i. record { n = sym (length-append xs (b ∷ [])) i; at = set-exactly 0 24 xs b h i }
+push-name : (xs : List ℕ) (b : ℕ) → length xs < bothVariables → pushName (heldNames xs) b ≡ heldNames (xs ++ (b ∷ []))
+push-name xs b h = λ i. record { n = sym (length-append xs (b ∷ [])) i; at = set-exactly 0 bothVariables xs b h i }
 
 -- ---- turns
 
@@ -68,19 +68,11 @@ module _ {A B : Type 0} (f : A → B) where
   pub mapped-short : (l : List A) (j : ℕ) → length (map f (take j l)) ≤ j
   mapped-short l j = omega (arith, length-map (take j l) f, length-take j l)
 
-  -- Stored into an array slot by slot
-  pub mapped-turn : (n : ℕ) (d : B) (e : A) (l : List A) (j : ℕ) → j < length l → j < n →
-      set (exactly n d (map f (take j l))) j (f (getD l j e)) ≡ exactly n d (map f (take (j + 1) l))
-  mapped-turn n d e l j h k =
-      let s : length (map f (take j l)) ≡ j = omega (arith, length-map (take j l) f, length-take j l) in
-      ap (λ (i : ℕ). set (exactly n d (map f (take j l))) i (f (getD l j e))) (sym s)
-      ∙ set-exactly d n (map f (take j l)) (f (getD l j e)) (omega arith) ∙ ap (exactly n d) (sym (map-more f l j e h))
-
-pub start-turn : (x : ℕ) → x < 24 → set (exactly 24 0 (upFrom 1 x)) x (x + 1) ≡ exactly 24 0 (upFrom 1 (x + 1))
+pub start-turn : (x : ℕ) → x < bothVariables → set (exactly bothVariables 0 (upFrom 1 x)) x (x + 1) ≡ exactly bothVariables 0 (upFrom 1 (x + 1))
 start-turn x h =
     let s = upFrom-length 1 x in
-    ap (λ (i : ℕ). set (exactly 24 0 (upFrom 1 x)) i (x + 1)) (sym s) ∙ set-exactly 0 24 (upFrom 1 x) (x + 1) (omega arith)
-    ∙ ap (exactly 24 0) (ap (λ (k : ℕ). upFrom 1 x ++ (k ∷ [])) (omega arith) ∙ sym (upFrom-more 1 x))
+    ap (λ (i : ℕ). set (exactly bothVariables 0 (upFrom 1 x)) i (x + 1)) (sym s) ∙ set-exactly 0 bothVariables (upFrom 1 x) (x + 1) (omega arith)
+    ∙ ap (exactly bothVariables 0) (ap (λ (k : ℕ). upFrom 1 x ++ (k ∷ [])) (omega arith) ∙ sym (upFrom-more 1 x))
 
 -- ---- atoms, each where it is new
 
@@ -101,18 +93,18 @@ module _ (xs : List Atom) (f : Atom → Atom) (l : List Atom) (j : ℕ) where
   atoms-short = omega (arith, addEach-short xs (map f (take j l)), mapped-short f l j)
 
   -- b, which f gives for the next atom, is stored where it is new.
-  pub atoms-turn : (o o′ : Atoms) (b : Atom) (old : Bool) → j < length l → length xs + j < 48 →
+  pub atoms-turn : (o o′ : Atoms) (b : Atom) (old : Bool) → j < length l → length xs + j < bothAtoms →
       o ≡ heldAtoms (addEach xs (map f (take j l))) → b ≡ f (getD l j noAtom) → old ≡ anyOf (λ a. sameAtom a b) (atomsIn o) →
       o′ ≡ cond old o (pushAtom o b) → o′ ≡ heldAtoms (addEach xs (map f (take (j + 1) l)))
   atoms-turn o o′ b old h k eo eb eold e =
       let ys = addEach xs (map f (take j l)) in
-      let s : length ys < 48 = omega (arith, atoms-short) in
+      let s : length ys < bothAtoms = omega (arith, atoms-short) in
       let known : old ≡ anyOf (λ a. sameAtom a b) ys = eold ∙ ap (λ (m : List Atom). anyOf (λ a. sameAtom a b) m) (atoms-in ys (omega arith) eo) in
       e ∙ ap₂ (λ (t : Bool) (m : Atoms). cond t m (pushAtom m b)) known eo ∙ go ys s (anyOf (λ a. sameAtom a b) ys)
       ∙ ap (λ (a : Atom). heldAtoms (addOne ys a)) eb
       ∙ ap heldAtoms (sym (ap (addEach xs) (map-more f l j noAtom h) ∙ addEach-more xs (map f (take j l)) (f (getD l j noAtom))))
     where
-      go : (ys : List Atom) → length ys < 48 → (t : Bool) → cond t (heldAtoms ys) (pushAtom (heldAtoms ys) b) ≡ heldAtoms (cond t ys (ys ++ (b ∷ [])))
+      go : (ys : List Atom) → length ys < bothAtoms → (t : Bool) → cond t (heldAtoms ys) (pushAtom (heldAtoms ys) b) ≡ heldAtoms (cond t ys (ys ++ (b ∷ [])))
       go ys s true = refl
       go ys s false = push-atom ys b s
 
@@ -124,7 +116,7 @@ module _ (xs : List Literal) (f : Literal → Literal) (i : ℕ) (l : List Liter
       let ys = without i (take j l) in
       omega (arith, length-append xs (map f ys), length-map ys f, without-short i (take j l), length-take j l)
 
-  pub literals-turn : (o o′ : Literals) (b : Literal) → j < length l → length xs + j < 16 →
+  pub literals-turn : (o o′ : Literals) (b : Literal) → j < length l → length xs + j < bothLiterals →
       o ≡ heldLiterals (xs ++ map f (without i (take j l))) → b ≡ f (getD l j noLiteral) →
       o′ ≡ cond (eqb j i) o (pushLiteral o b) → o′ ≡ heldLiterals (xs ++ map f (without i (take (j + 1) l)))
   literals-turn o o′ b h k eo eb e =
@@ -145,7 +137,7 @@ module _ (xs : List Literal) (f : Literal → Literal) (i : ℕ) (l : List Liter
 
 -- ---- names
 
-pub names-turn : (xs l : List ℕ) (j : ℕ) → j < length l → length xs + j < 24 → pushName (heldNames (xs ++ take j l)) (getD l j 0) ≡ heldNames (xs ++ take (j + 1) l)
+pub names-turn : (xs l : List ℕ) (j : ℕ) → j < length l → length xs + j < bothVariables → pushName (heldNames (xs ++ take j l)) (getD l j 0) ≡ heldNames (xs ++ take (j + 1) l)
 names-turn xs l j h k =
     push-name (xs ++ take j l) (getD l j 0) (omega (arith, length-append xs (take j l), length-take j l))
     ∙ ap heldNames (append-assoc xs (take j l) _ ∙ ap (λ (m : List ℕ). xs ++ m) (sym (take-more l j 0 h)))
@@ -154,7 +146,7 @@ module _ (p : ℕ → Bool) (x : ℕ) where
   pub kept-short : length (keepIf p (upFrom 1 x)) ≤ x
   kept-short = omega (arith, keepIf-short p (upFrom 1 x), upFrom-length 1 x)
 
-  pub kept-turn : (o o′ : Names) (b : Bool) → x < 24 → o ≡ heldNames (keepIf p (upFrom 1 x)) → b ≡ p (x + 1) → o′ ≡ cond b (pushName o (x + 1)) o → o′ ≡ heldNames (keepIf p (upFrom 1 (x + 1)))
+  pub kept-turn : (o o′ : Names) (b : Bool) → x < bothVariables → o ≡ heldNames (keepIf p (upFrom 1 x)) → b ≡ p (x + 1) → o′ ≡ cond b (pushName o (x + 1)) o → o′ ≡ heldNames (keepIf p (upFrom 1 (x + 1)))
   kept-turn o o′ b h eo eb e =
       let ks = keepIf p (upFrom 1 x) in
       let more : upFrom 1 (x + 1) ≡ upFrom 1 x ++ ((x + 1) ∷ []) = upFrom-more 1 x ∙ ap (λ (k : ℕ). upFrom 1 x ++ (k ∷ [])) (omega arith) in

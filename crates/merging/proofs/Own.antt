@@ -13,7 +13,7 @@ use Rattle.lists.proofs.Walks.{take-more, keepIf-more, keepIf-short}
 use Rattle.calculus.specs.Clauses.{arguments, noLiteral, sameLiteral, ground}
 use Rattle.calculus.specs.Merging.{join, joins, ownPairs, reasonLiterals, ownIndex}
 use Rattle.merging.specs.declared.Literals.{Literals}
-use Rattle.merging.specs.Scratch.{heldLiterals}
+use Rattle.merging.specs.Scratch.{bothLiterals, heldLiterals}
 use Rattle.merging.proofs.Held.{pushLiteral, push-literal}
 
 joins-append : (es fs : List (ℕ × ℕ)) (σ : List ℕ) → joins (es ++ fs) σ ≡ joins fs (joins es σ)
@@ -92,7 +92,7 @@ module _ (τ : List ℕ) (g : Literal) where
   pub stay-few : (i : ℕ) (a : List Literal) (j : ℕ) → length (reasonLiterals τ g i (take j a)) ≤ j
   stay-few i a j = omega (arith, stay-short i (take j a), length-take j a)
 
-  pub stay-turn : (f : Literal → Literal) (i : ℕ) (a : List Literal) (j : ℕ) (o o′ : Literals) (m : Literal) (b : Bool) → j < length a → j < 16 →
+  pub stay-turn : (f : Literal → Literal) (i : ℕ) (a : List Literal) (j : ℕ) (o o′ : Literals) (m : Literal) (b : Bool) → j < length a → j < bothLiterals →
       o ≡ heldLiterals (map f (reasonLiterals τ g i (take j a))) → m ≡ f (getD a j noLiteral) → b ≡ (eqb j i || not (sameLiteral (ground τ (getD a j noLiteral)) g)) →
       o′ ≡ cond b (pushLiteral o m) o → o′ ≡ heldLiterals (map f (reasonLiterals τ g i (take (j + 1) a)))
   stay-turn f i a j o o′ m b h k eo em eb e =

@@ -25,7 +25,7 @@ use Rattle.merging.specs.declared.Atoms.{Atoms}
 use Rattle.merging.specs.declared.Literals.{Literals}
 use Rattle.merging.specs.declared.Names.{Names}
 use Rattle.merging.specs.declared.Merged.{Merged}
-use Rattle.merging.specs.Scratch.{atomsIn, literalsIn, namesIn, heldAtoms, heldLiterals, heldNames, addOne, addEach, closed, through}
+use Rattle.merging.specs.Scratch.{bothVariables, bothAtoms, bothLiterals, atomsIn, literalsIn, namesIn, heldAtoms, heldLiterals, heldNames, addOne, addEach, closed, through}
 use Rattle.merging.specs.Results.{tooLarge, fitted}
 use Rattle.merging.proofs.Held.{atoms-in, literals-in, names-in, kept-short}
 
@@ -67,15 +67,15 @@ joins-exactly n [] σ h = refl
 joins-exactly n (e ∷ es) σ h =
     ap (joins es) (join-exactly n (e .0) (e .1) σ h) ∙ joins-exactly n es (join (e .0) (e .1) σ) (omega (arith, length-map σ (λ z. cond (eqb z (max (under σ (e .0)) (under σ (e .1)))) (min (under σ (e .0)) (under σ (e .1))) z)))
 
-pub merge-is : (es : List (ℕ × ℕ)) (v : ℕ) (az : List Atom) (ls : List Literal) (τ : List ℕ) {t u : List ℕ} → v ≤ 24 → length τ ≤ 24 →
-    t ≡ joins es (exactly 24 0 (upFrom 1 v)) → u ≡ exactly 24 0 τ →
+pub merge-is : (es : List (ℕ × ℕ)) (v : ℕ) (az : List Atom) (ls : List Literal) (τ : List ℕ) {t u : List ℕ} → v ≤ bothVariables → length τ ≤ bothVariables →
+    t ≡ joins es (exactly bothVariables 0 (upFrom 1 v)) → u ≡ exactly bothVariables 0 τ →
     closeUp v (distinct (map (renameAtom (under t)) az)) (map (renameLiteral (under t)) ls) u ≡ merge es v az ls τ
 unfolding merge closeUp
 merge-is es v az ls τ {t} {u} h k et eu =
-    let few : length (upFrom 1 v) ≤ 24 = omega (arith, upFrom-length 1 v) in
+    let few : length (upFrom 1 v) ≤ bothVariables = omega (arith, upFrom-length 1 v) in
     let σ = joins es (upFrom 1 v) in
-    let table : under t ≡ under σ = ap under (et ∙ joins-exactly 24 es (upFrom 1 v) few) ∙ under-exactly 24 σ (omega (arith, joins-length es (upFrom 1 v))) in
-    ap₂ (λ (f g : ℕ → ℕ). closing v (distinct (map (renameAtom f) az)) (map (renameLiteral f) ls) g) table (ap under eu ∙ under-exactly 24 τ k)
+    let table : under t ≡ under σ = ap under (et ∙ joins-exactly bothVariables es (upFrom 1 v) few) ∙ under-exactly bothVariables σ (omega (arith, joins-length es (upFrom 1 v))) in
+    ap₂ (λ (f g : ℕ → ℕ). closing v (distinct (map (renameAtom f) az)) (map (renameLiteral f) ls) g) table (ap under eu ∙ under-exactly bothVariables τ k)
   where
     closing : ℕ → List Atom → List Literal → (ℕ → ℕ) → Instanced
     closing v az ls g =
@@ -163,10 +163,10 @@ module _ (v : ℕ) (az : List Atom) (ls : List Literal) (t : List ℕ) where
 -- The parts that the code makes are those of the record.
 pub close-is : (v : ℕ) (az : Atoms) (ls : Literals) (t : List ℕ) {ks : Names} {k n m : ℕ} {atoms : List Atom} {literals : List Literal} {instance : List ℕ} →
     ks ≡ heldNames (keepIf (occursIn (atomsIn az) (literalsIn ls)) (upFrom 1 v)) → k ≡ ks .n → n ≡ length (atomsIn az) → m ≡ length (literalsIn ls) →
-    v ≤ 24 → k ≤ 12 → n ≤ 24 → m ≤ 8 →
-    atoms ≡ exactly 24 noAtom (map (renameAtom (closed (namesIn ks))) (atomsIn az)) →
-    literals ≡ exactly 8 noLiteral (map (renameLiteral (closed (namesIn ks))) (literalsIn ls)) →
-    instance ≡ exactly 12 0 (map (under t) (namesIn ks)) →
+    v ≤ bothVariables → k ≤ mostVariables → n ≤ mostAtoms → m ≤ mostLiterals →
+    atoms ≡ exactly mostAtoms noAtom (map (renameAtom (closed (namesIn ks))) (atomsIn az)) →
+    literals ≡ exactly mostLiterals noLiteral (map (renameLiteral (closed (namesIn ks))) (literalsIn ls)) →
+    instance ≡ exactly mostVariables 0 (map (under t) (namesIn ks)) →
     _≡_ {A = Merged} (record { fits = true; of = record { clause = record { variables = k; atomcount = n; literalcount = m; atoms = atoms; literals = literals }; instance = instance } })
     (fitted (closeUp v (atomsIn az) (literalsIn ls) t))
 unfolding closeUp
@@ -176,9 +176,9 @@ close-is v az ls t {ks} {k} {n} {m} ek enk en em hv hk hn hm ea el ei =
     let K = keepIf (occursIn az′ ls′) (upFrom 1 v) in
     let count : k ≡ length K = enk ∙ ap (λ (l : Names). l .n) ek in
     let names : namesIn ks ≡ K = names-in K (omega (arith, kept-short (occursIn az′ ls′) v)) ek in
-    let ea′ = ea ∙ ap (λ (l : List ℕ). exactly 24 noAtom (map (renameAtom (closed l)) az′)) names in
-    let el′ = el ∙ ap (λ (l : List ℕ). exactly 8 noLiteral (map (renameLiteral (closed l)) ls′)) names in
-    let ei′ = ei ∙ ap (λ (l : List ℕ). exactly 12 0 (map (under t) l)) names in
+    let ea′ = ea ∙ ap (λ (l : List ℕ). exactly mostAtoms noAtom (map (renameAtom (closed l)) az′)) names in
+    let el′ = el ∙ ap (λ (l : List ℕ). exactly mostLiterals noLiteral (map (renameLiteral (closed l)) ls′)) names in
+    let ei′ = ei ∙ ap (λ (l : List ℕ). exactly mostVariables 0 (map (under t) l)) names in
     let en′ = en ∙ sym (length-map az′ (renameAtom (closed K))) in
     let em′ = em ∙ sym (length-map ls′ (renameLiteral (closed K))) in
     (λ i. record { fits = true; of = record { clause = record { variables = count i; atomcount = en′ i; literalcount = em′ i; atoms = ea′ i; literals = el′ i }; instance = ei′ i } })
@@ -187,7 +187,7 @@ close-is v az ls t {ks} {k} {n} {m} ek enk en em hv hk hn hm ea el ei =
 -- ---- two clauses together
 
 module _ (t : List ℕ) (v : ℕ) where
-  pub both-atoms-held : (xs ys : List Atom) {a b : Atoms} → length xs ≤ 24 → a ≡ heldAtoms (distinct (map (renameAtom (under t)) xs)) →
+  pub both-atoms-held : (xs ys : List Atom) {a b : Atoms} → length xs ≤ mostAtoms → a ≡ heldAtoms (distinct (map (renameAtom (under t)) xs)) →
       b ≡ heldAtoms (addEach (atomsIn a) (map (renameAtom (through t v)) ys)) → b ≡ heldAtoms (distinct (map (renameAtom (under t)) (xs ++ map (renameAtom (apart v)) ys)))
   both-atoms-held xs ys h ea eb =
       let fx = map (renameAtom (under t)) xs in
@@ -196,7 +196,7 @@ module _ (t : List ℕ) (v : ℕ) where
       eb ∙ ap heldAtoms (ap (λ (l : List Atom). addEach l fy) read ∙ addEach-distinct fx fy
       ∙ ap distinct (ap (λ (l : List Atom). fx ++ l) (sym (map-map (renameAtom (under t)) (renameAtom (apart v)) ys)) ∙ sym (map-append (renameAtom (under t)) xs (map (renameAtom (apart v)) ys))))
 
-  pub both-literals-held : (xs ys : List Literal) {a b : Literals} → length xs ≤ 16 → a ≡ heldLiterals (map (renameLiteral (under t)) xs) →
+  pub both-literals-held : (xs ys : List Literal) {a b : Literals} → length xs ≤ bothLiterals → a ≡ heldLiterals (map (renameLiteral (under t)) xs) →
       b ≡ heldLiterals (literalsIn a ++ map (renameLiteral (through t v)) ys) → b ≡ heldLiterals (map (renameLiteral (under t)) (xs ++ map (renameLiteral (apart v)) ys))
   both-literals-held xs ys h ea eb =
       let fx = map (renameLiteral (under t)) xs in
@@ -218,7 +218,7 @@ both-length f xs ys = length-append xs (map f ys) ∙ ap (λ (n : ℕ). length x
 -- ---- the merge of what is held
 
 pub merge-made : (es : List (ℕ × ℕ)) (v : ℕ) (az : List Atom) (ls : List Literal) (τ : List ℕ) {t s : List ℕ} {a : Atoms} {l : Literals} {n : Names} →
-    v ≤ 24 → length az ≤ 48 → length ls ≤ 16 → length τ ≤ 24 → s ≡ exactly 24 0 (upFrom 1 v) → t ≡ joins es s →
+    v ≤ bothVariables → length az ≤ bothAtoms → length ls ≤ bothLiterals → length τ ≤ bothVariables → s ≡ exactly bothVariables 0 (upFrom 1 v) → t ≡ joins es s →
     a ≡ heldAtoms (distinct (map (renameAtom (under t)) az)) → l ≡ heldLiterals (map (renameLiteral (under t)) ls) → n ≡ heldNames τ →
     closeUp v (atomsIn a) (literalsIn l) (n .at) ≡ merge es v az ls τ
 merge-made es v az ls τ {t} {s} {a} {l} {n} hv ha hl hn es′ et ea el en =
@@ -243,17 +243,17 @@ merge-limits es v az ls τ hv ha hl =
 -- ---- how much there is to merge
 
 module _ (c : Clause) (h : Counted c) where
-  pub few-atoms : length (clauseOf c .atoms) ≤ 24
+  pub few-atoms : length (clauseOf c .atoms) ≤ mostAtoms
   few-atoms = omega (arith, h .few-atoms, length-take (c .atomcount) (c .atoms))
 
-  pub few-others : (i : ℕ) → length (without i (clauseOf c .literals)) ≤ 8
+  pub few-others : (i : ℕ) → length (without i (clauseOf c .literals)) ≤ mostLiterals
   few-others i = omega (arith, h .few-literals, without-short i (clauseOf c .literals), length-take (c .literalcount) (c .literals))
 
 module _ (c d : Clause) (h : Counted c) (k : Counted d) (v : ℕ) where
-  pub few-both-atoms : length (clauseOf c .atoms ++ map (renameAtom (apart v)) (clauseOf d .atoms)) ≤ 48
+  pub few-both-atoms : length (clauseOf c .atoms ++ map (renameAtom (apart v)) (clauseOf d .atoms)) ≤ bothAtoms
   few-both-atoms = omega (arith, both-length (renameAtom (apart v)) (clauseOf c .atoms) (clauseOf d .atoms), few-atoms c h, few-atoms d k)
 
-  pub few-both-others : (j i : ℕ) → length (without j (clauseOf c .literals) ++ map (renameLiteral (apart v)) (without i (clauseOf d .literals))) ≤ 16
+  pub few-both-others : (j i : ℕ) → length (without j (clauseOf c .literals) ++ map (renameLiteral (apart v)) (without i (clauseOf d .literals))) ≤ bothLiterals
   few-both-others j i = omega (arith, both-length (renameLiteral (apart v)) (without j (clauseOf c .literals)) (without i (clauseOf d .literals)), few-others c h j, few-others d k i)
 
 -- "Their variables are merged; the one with the larger number goes": whichever is named first

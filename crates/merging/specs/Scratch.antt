@@ -14,6 +14,15 @@ use Rattle.merging.specs.declared.Atoms.{Atoms}
 use Rattle.merging.specs.declared.Literals.{Literals}
 use Rattle.merging.specs.declared.Names.{Names}
 
+abbrev pub bothVariables : ℕ
+bothVariables = 24
+
+abbrev pub bothAtoms : ℕ
+bothAtoms = 48
+
+abbrev pub bothLiterals : ℕ
+bothLiterals = 16
+
 abbrev pub atomsIn : Atoms → List Atom
 atomsIn l = take (l .n) (l .at)
 
@@ -25,13 +34,13 @@ namesIn l = take (l .n) (l .at)
 
 -- A list held, blank past its end
 abbrev pub heldAtoms : List Atom → Atoms
-heldAtoms xs = record { n = length xs; at = exactly 48 noAtom xs }
+heldAtoms xs = record { n = length xs; at = exactly bothAtoms noAtom xs }
 
 abbrev pub heldLiterals : List Literal → Literals
-heldLiterals xs = record { n = length xs; at = exactly 16 noLiteral xs }
+heldLiterals xs = record { n = length xs; at = exactly bothLiterals noLiteral xs }
 
 abbrev pub heldNames : List ℕ → Names
-heldNames xs = record { n = length xs; at = exactly 24 0 xs }
+heldNames xs = record { n = length xs; at = exactly bothVariables 0 xs }
 
 -- What the table t has for variable x of a clause whose variables follow v others
 abbrev pub through : List ℕ → ℕ → ℕ → ℕ

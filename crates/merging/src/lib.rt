@@ -1,45 +1,58 @@
 // Merging: the reason of a Propagate, the resolvent and the factored conflict, all by the same steps. Variables are joined in a table of
 // group numbers; atoms and literals are renamed by it, an atom equal to an earlier one going; then numbers close up.
 ghost use mathlib.Core.Path.{_≡_};
-ghost use mathlib.Core.Bool.{Bool, true, false, _||_, _&&_, not, cond};
-ghost use mathlib.Core.List.{List, [], _∷_, _++_, map};
-ghost use Prim.Native.Nat.{ℕ, _+_, _-_, _≤_, _<_, min, max};
+ghost use mathlib.Core.Bool.{_||_, not, cond};
+ghost use mathlib.Core.List.{[], _++_, map};
+ghost use Prim.Native.Nat.{_≤_, min, max};
 ghost use lib.Dec.{eqb};
 ghost use lib.ListN.{length, getD, take};
 ghost use Rattle.lists.specs.Lists.{anyOf, keepIf, upFrom, pairUp, without};
 ghost use Rattle.lists.specs.Arrays.{exactly};
+ghost use Rattle.basis.specs.Limits.{mostVariables, mostAtoms, mostLiterals};
 ghost use Rattle.basis.specs.Atoms.{noAtom};
 ghost use Rattle.calculus.specs.Clauses.{arguments, noLiteral, sameAtom, sameLiteral, renameAtom, renameLiteral, under};
 ghost use Rattle.calculus.specs.Clauses as calculus;
 ghost use Rattle.calculus.specs.Merging.{join, joins, distinct, occursIn, closeUp, apart, ownPairs, reasonLiterals, ownIndex, reason, resolvent, factored};
 ghost use Rattle.clauses.specs.Records.{clauseOf, instancedOf, Counted};
-ghost use Rattle.merging.specs.Scratch.{atomsIn, literalsIn, namesIn, heldAtoms, heldLiterals, heldNames, through, addEach, closed};
+ghost use Rattle.merging.specs.Scratch.{bothVariables, bothAtoms, bothLiterals, atomsIn, literalsIn, namesIn, heldAtoms, heldLiterals, heldNames, through, addEach, closed};
 ghost use Rattle.merging.specs.Results.{tooLarge, fitted, packedReason, noReason, resolved, factorized, reasonOf};
 use basis::Atom;
 use basis::Literal;
+use basis::MOST_ATOMS;
+use basis::MOST_LITERALS;
+use basis::MOST_VARIABLES;
 use clauses::Clause;
 use clauses::Instanced;
 use clauses::counted;
 use clauses::ground;
+use clauses::in_atom;
+use clauses::in_literal;
 use clauses::no_instanced;
 use clauses::no_literal;
 use clauses::same_atom;
 use clauses::same_literal;
 
+// Two clauses are merged before the limits are counted.
+const BOTH_VARIABLES: usize = 24;
+
+const BOTH_ATOMS: usize = 48;
+
+const BOTH_LITERALS: usize = 16;
+
 struct Atoms {
     n: usize,
-    at: [Atom; 48],
+    at: [Atom; BOTH_ATOMS],
 }
 
 struct Literals {
     n: usize,
-    at: [Literal; 16],
+    at: [Literal; BOTH_LITERALS],
 }
 
 // Variables, or the constants that an instance has for them
 struct Names {
     n: usize,
-    at: [u8; 24],
+    at: [u8; BOTH_VARIABLES],
 }
 
 // A merged clause with its instance, where it is within the limits
@@ -58,7 +71,7 @@ fn no_atoms() -> Atoms
     ensures { λ r. ⌜ r ≡ heldAtoms [] ⌝ }
 {
     let a = Atom { p: 0, q: 0, c: 0 };
-    let at = [a; 48];
+    let at = [a; BOTH_ATOMS];
     Atoms { n: 0, at: at }
 }
 
@@ -72,63 +85,63 @@ fn no_literals() -> Literals
         y: 0,
         z: 0,
     };
-    let at = [l; 16];
+    let at = [l; BOTH_LITERALS];
     Literals { n: 0, at: at }
 }
 
 fn no_names() -> Names
     ensures { λ r. ⌜ r ≡ heldNames [] ⌝ }
 {
-    let at = [0u8; 24];
+    let at = [0u8; BOTH_VARIABLES];
     Names { n: 0, at: at }
 }
 
 // How many there are, and that the array is whole
 fn count_atoms(l: Atoms) -> usize
-    ensures { λ r. ⌜ (r ≡ l .n) × (length (l .at) ≡ 48) ⌝ }
+    ensures { λ r. ⌜ (r ≡ l .n) × (length (l .at) ≡ bothAtoms) ⌝ }
 {
     l.n
 }
 
 fn count_literals(l: Literals) -> usize
-    ensures { λ r. ⌜ (r ≡ l .n) × (length (l .at) ≡ 16) ⌝ }
+    ensures { λ r. ⌜ (r ≡ l .n) × (length (l .at) ≡ bothLiterals) ⌝ }
 {
     l.n
 }
 
 fn count_names(l: Names) -> usize
-    ensures { λ r. ⌜ (r ≡ l .n) × (length (l .at) ≡ 24) ⌝ }
+    ensures { λ r. ⌜ (r ≡ l .n) × (length (l .at) ≡ bothVariables) ⌝ }
 {
     l.n
 }
 
 fn clause_atoms(c: Clause) -> usize
-    ensures { λ r. ⌜ (r ≡ c .atomcount) × (length (c .atoms) ≡ 24) ⌝ }
+    ensures { λ r. ⌜ (r ≡ c .atomcount) × (length (c .atoms) ≡ mostAtoms) ⌝ }
 {
     c.atomcount as usize
 }
 
 fn clause_literals(c: Clause) -> usize
-    ensures { λ r. ⌜ (r ≡ c .literalcount) × (length (c .literals) ≡ 8) ⌝ }
+    ensures { λ r. ⌜ (r ≡ c .literalcount) × (length (c .literals) ≡ mostLiterals) ⌝ }
 {
     c.literalcount as usize
 }
 
 // What the table has for variable x of a clause whose variables follow v others
-fn look(t: [u8; 24], v: u8, x: u8) -> u8
+fn look(t: [u8; BOTH_VARIABLES], v: u8, x: u8) -> u8
     ensures { λ r. ⌜ r ≡ through t v x ⌝ }
 {
     if x == 0 {
         return 0;
     }
     let k = x as usize + v as usize - 1;
-    if k < 24 {
+    if k < BOTH_VARIABLES {
         return t[k];
     }
     0
 }
 
-fn atom_by(t: [u8; 24], v: u8, a: Atom) -> Atom
+fn atom_by(t: [u8; BOTH_VARIABLES], v: u8, a: Atom) -> Atom
     ensures { λ r. ⌜ r ≡ renameAtom (through t v) a ⌝ }
 {
     let p = look(t, v, a.p);
@@ -139,7 +152,7 @@ fn atom_by(t: [u8; 24], v: u8, a: Atom) -> Atom
     r
 }
 
-fn literal_by(t: [u8; 24], v: u8, l: Literal) -> Literal
+fn literal_by(t: [u8; BOTH_VARIABLES], v: u8, l: Literal) -> Literal
     ensures { λ r. ⌜ r ≡ renameLiteral (through t v) l ⌝ }
 {
     let x = look(t, v, l.x);
@@ -155,15 +168,15 @@ fn literal_by(t: [u8; 24], v: u8, l: Literal) -> Literal
 // ---- groups of variables
 
 // The table in which each of v variables stands for itself
-fn start(v: u8) -> [u8; 24]
-    requires { ⌜ v ≤ 24 ⌝ }
-    ensures { λ r. ⌜ r ≡ exactly 24 0 (upFrom 1 v) ⌝ }
+fn start(v: usize) -> [u8; BOTH_VARIABLES]
+    requires { ⌜ v ≤ bothVariables ⌝ }
+    ensures { λ r. ⌜ r ≡ exactly bothVariables 0 (upFrom 1 v) ⌝ }
 {
-    let mut out = [0u8; 24];
-    let mut x: u8 = 0;
+    let mut out = [0u8; BOTH_VARIABLES];
+    let mut x: usize = 0;
     while x < v {
         let y = x + 1;
-        out[x as usize] = y;
+        out[x] = y as u8;
         x = y;
     }
     out
@@ -180,12 +193,12 @@ fn moved(z: u8, hi: u8, lo: u8) -> u8
 }
 
 // The table with every hi made lo
-fn renumbered(t: [u8; 24], hi: u8, lo: u8) -> [u8; 24]
+fn renumbered(t: [u8; BOTH_VARIABLES], hi: u8, lo: u8) -> [u8; BOTH_VARIABLES]
     ensures { λ r. ⌜ r ≡ map (λ z. cond (eqb z hi) lo z) t ⌝ }
 {
     let mut out = t;
     let mut j: usize = 0;
-    while j < 24 {
+    while j < BOTH_VARIABLES {
         out[j] = moved(t[j], hi, lo);
         j += 1;
     }
@@ -205,7 +218,7 @@ fn high(a: u8, b: u8) -> u8
 }
 
 // Variable x joined with variable y of a clause whose variables follow v others
-fn joined(t: [u8; 24], x: u8, v: u8, y: u8) -> [u8; 24]
+fn joined(t: [u8; BOTH_VARIABLES], x: u8, v: u8, y: u8) -> [u8; BOTH_VARIABLES]
     ensures { λ r. ⌜ r ≡ join x (apart v y) t ⌝ }
 {
     let a = look(t, 0, x);
@@ -216,7 +229,7 @@ fn joined(t: [u8; 24], x: u8, v: u8, y: u8) -> [u8; 24]
 }
 
 // Argument by argument
-fn joined_arguments(t: [u8; 24], l: Literal, v: u8, m: Literal) -> [u8; 24]
+fn joined_arguments(t: [u8; BOTH_VARIABLES], l: Literal, v: u8, m: Literal) -> [u8; BOTH_VARIABLES]
     ensures { λ r. ⌜ r ≡ joins (pairUp (arguments l) (arguments (renameLiteral (apart v) m))) t ⌝ }
 {
     let t1 = joined(t, l.x, v, m.x);
@@ -227,7 +240,7 @@ fn joined_arguments(t: [u8; 24], l: Literal, v: u8, m: Literal) -> [u8; 24]
 // ---- atoms and literals renamed by a table
 
 fn has_atom(l: Atoms, b: Atom) -> bool
-    requires { ⌜ l .n ≤ 48 ⌝ }
+    requires { ⌜ l .n ≤ bothAtoms ⌝ }
     ensures { λ r. ⌜ r ≡ anyOf (λ a. sameAtom a b) (atomsIn l) ⌝ }
 {
     let n = count_atoms(l);
@@ -243,8 +256,8 @@ fn has_atom(l: Atoms, b: Atom) -> bool
 }
 
 // The atoms of c by the table, its variables following v others, each put after those of l where it is new
-fn append_atoms(l: Atoms, c: Clause, v: u8, t: [u8; 24]) -> Atoms
-    requires { ⌜ (l ≡ heldAtoms (atomsIn l)) × (l .n ≤ 24) × (c .atomcount ≤ 24) ⌝ }
+fn append_atoms(l: Atoms, c: Clause, v: u8, t: [u8; BOTH_VARIABLES]) -> Atoms
+    requires { ⌜ (l ≡ heldAtoms (atomsIn l)) × (l .n ≤ mostAtoms) × (c .atomcount ≤ mostAtoms) ⌝ }
     ensures { λ r. ⌜ r ≡ heldAtoms (addEach (atomsIn l) (map (renameAtom (through t v)) (clauseOf c .atoms))) ⌝ }
 {
     let n = clause_atoms(c);
@@ -265,8 +278,8 @@ fn append_atoms(l: Atoms, c: Clause, v: u8, t: [u8; 24]) -> Atoms
 }
 
 // The literals of c but the one at i, by the table, its variables following v others, after those of l
-fn append_literals(l: Literals, c: Clause, i: usize, v: u8, t: [u8; 24]) -> Literals
-    requires { ⌜ (l ≡ heldLiterals (literalsIn l)) × (l .n ≤ 8) × (c .literalcount ≤ 8) ⌝ }
+fn append_literals(l: Literals, c: Clause, i: usize, v: u8, t: [u8; BOTH_VARIABLES]) -> Literals
+    requires { ⌜ (l ≡ heldLiterals (literalsIn l)) × (l .n ≤ mostLiterals) × (c .literalcount ≤ mostLiterals) ⌝ }
     ensures { λ r. ⌜ r ≡ heldLiterals (literalsIn l ++ map (renameLiteral (through t v)) (without i (clauseOf c .literals))) ⌝ }
 {
     let n = clause_literals(c);
@@ -286,8 +299,8 @@ fn append_literals(l: Literals, c: Clause, i: usize, v: u8, t: [u8; 24]) -> Lite
 }
 
 // The first u constants of an instance after those of l
-fn append_names(l: Names, a: [u8; 12], u: u8) -> Names
-    requires { ⌜ (l ≡ heldNames (namesIn l)) × (l .n ≤ 12) × (u ≤ 12) ⌝ }
+fn append_names(l: Names, a: [u8; MOST_VARIABLES], u: u8) -> Names
+    requires { ⌜ (l ≡ heldNames (namesIn l)) × (l .n ≤ mostVariables) × (u ≤ mostVariables) ⌝ }
     ensures { λ r. ⌜ r ≡ heldNames (namesIn l ++ take u a) ⌝ }
 {
     let n = u as usize;
@@ -305,32 +318,8 @@ fn append_names(l: Names, a: [u8; 12], u: u8) -> Names
 
 // ---- closing up
 
-fn in_atom(a: Atom, x: u8) -> bool
-    ensures { λ r. ⌜ r ≡ (eqb x (a .p) || eqb x (a .q)) ⌝ }
-{
-    if x == a.p {
-        return true;
-    }
-    x == a.q
-}
-
-fn in_literal(l: Literal, x: u8) -> bool
-    ensures { λ r. ⌜ r ≡ anyOf (eqb x) (arguments l) ⌝ }
-{
-    if x == l.x {
-        return true;
-    }
-    if x == l.y {
-        return true;
-    }
-    if x == l.z {
-        return true;
-    }
-    false
-}
-
 fn in_atoms(l: Atoms, x: u8) -> bool
-    requires { ⌜ l .n ≤ 48 ⌝ }
+    requires { ⌜ l .n ≤ bothAtoms ⌝ }
     ensures { λ r. ⌜ r ≡ anyOf (λ a. eqb x (a .p) || eqb x (a .q)) (atomsIn l) ⌝ }
 {
     let n = count_atoms(l);
@@ -346,7 +335,7 @@ fn in_atoms(l: Atoms, x: u8) -> bool
 }
 
 fn in_literals(l: Literals, x: u8) -> bool
-    requires { ⌜ l .n ≤ 16 ⌝ }
+    requires { ⌜ l .n ≤ bothLiterals ⌝ }
     ensures { λ r. ⌜ r ≡ anyOf (λ m. anyOf (eqb x) (arguments m)) (literalsIn l) ⌝ }
 {
     let n = count_literals(l);
@@ -362,7 +351,7 @@ fn in_literals(l: Literals, x: u8) -> bool
 }
 
 fn occurs(az: Atoms, ls: Literals, x: u8) -> bool
-    requires { ⌜ (az .n ≤ 48) × (ls .n ≤ 16) ⌝ }
+    requires { ⌜ (az .n ≤ bothAtoms) × (ls .n ≤ bothLiterals) ⌝ }
     ensures { λ r. ⌜ r ≡ occursIn (atomsIn az) (literalsIn ls) x ⌝ }
 {
     if in_atoms(az, x) {
@@ -372,18 +361,19 @@ fn occurs(az: Atoms, ls: Literals, x: u8) -> bool
 }
 
 // The variables that occur, in order
-fn kept(az: Atoms, ls: Literals, v: u8) -> Names
-    requires { ⌜ (az .n ≤ 48) × (ls .n ≤ 16) × (v ≤ 24) ⌝ }
+fn kept(az: Atoms, ls: Literals, v: usize) -> Names
+    requires { ⌜ (az .n ≤ bothAtoms) × (ls .n ≤ bothLiterals) × (v ≤ bothVariables) ⌝ }
     ensures { λ r. ⌜ r ≡ heldNames (keepIf (occursIn (atomsIn az) (literalsIn ls)) (upFrom 1 v)) ⌝ }
 {
     let mut out = no_names();
-    let mut x: u8 = 0;
+    let mut x: usize = 0;
     while x < v {
         let y = x + 1;
-        let b = occurs(az, ls, y);
+        let name = y as u8;
+        let b = occurs(az, ls, name);
         if b {
             let m = out.n;
-            out.at[m] = y;
+            out.at[m] = name;
             out.n = m + 1;
         }
         x = y;
@@ -393,7 +383,7 @@ fn kept(az: Atoms, ls: Literals, v: u8) -> Names
 
 // The new number of variable x
 fn number(ks: Names, x: u8) -> u8
-    requires { ⌜ ks .n ≤ 24 ⌝ }
+    requires { ⌜ ks .n ≤ bothVariables ⌝ }
     ensures { λ r. ⌜ r ≡ closed (namesIn ks) x ⌝ }
 {
     if x == 0 {
@@ -413,7 +403,7 @@ fn number(ks: Names, x: u8) -> u8
 }
 
 fn closed_atom(ks: Names, a: Atom) -> Atom
-    requires { ⌜ ks .n ≤ 24 ⌝ }
+    requires { ⌜ ks .n ≤ bothVariables ⌝ }
     ensures { λ r. ⌜ r ≡ renameAtom (closed (namesIn ks)) a ⌝ }
 {
     let p = number(ks, a.p);
@@ -425,7 +415,7 @@ fn closed_atom(ks: Names, a: Atom) -> Atom
 }
 
 fn closed_literal(ks: Names, l: Literal) -> Literal
-    requires { ⌜ ks .n ≤ 24 ⌝ }
+    requires { ⌜ ks .n ≤ bothVariables ⌝ }
     ensures { λ r. ⌜ r ≡ renameLiteral (closed (namesIn ks)) l ⌝ }
 {
     let x = number(ks, l.x);
@@ -438,26 +428,26 @@ fn closed_literal(ks: Names, l: Literal) -> Literal
     r
 }
 
-fn closed_atoms(l: Atoms, ks: Names) -> [Atom; 24]
-    requires { ⌜ (l .n ≤ 24) × (ks .n ≤ 24) ⌝ }
-    ensures { λ r. ⌜ r ≡ exactly 24 noAtom (map (renameAtom (closed (namesIn ks))) (atomsIn l)) ⌝ }
+fn closed_atoms(l: Atoms, ks: Names) -> [Atom; MOST_ATOMS]
+    requires { ⌜ (l .n ≤ mostAtoms) × (ks .n ≤ bothVariables) ⌝ }
+    ensures { λ r. ⌜ r ≡ exactly mostAtoms noAtom (map (renameAtom (closed (namesIn ks))) (atomsIn l)) ⌝ }
 {
     let n = count_atoms(l);
     let blank = Atom { p: 0, q: 0, c: 0 };
-    let mut out = [blank; 24];
+    let mut out = [blank; MOST_ATOMS];
     let mut j: usize = 0;
     while j < n {
         let a = l.at[j];
-        let b = closed_atom(ks, a);
-        out[j] = b;
+        let d = closed_atom(ks, a);
+        out[j] = d;
         j += 1;
     }
     out
 }
 
-fn closed_literals(l: Literals, ks: Names) -> [Literal; 8]
-    requires { ⌜ (l .n ≤ 8) × (ks .n ≤ 24) ⌝ }
-    ensures { λ r. ⌜ r ≡ exactly 8 noLiteral (map (renameLiteral (closed (namesIn ks))) (literalsIn l)) ⌝ }
+fn closed_literals(l: Literals, ks: Names) -> [Literal; MOST_LITERALS]
+    requires { ⌜ (l .n ≤ mostLiterals) × (ks .n ≤ bothVariables) ⌝ }
+    ensures { λ r. ⌜ r ≡ exactly mostLiterals noLiteral (map (renameLiteral (closed (namesIn ks))) (literalsIn l)) ⌝ }
 {
     let n = count_literals(l);
     let blank = Literal {
@@ -467,7 +457,7 @@ fn closed_literals(l: Literals, ks: Names) -> [Literal; 8]
         y: 0,
         z: 0,
     };
-    let mut out = [blank; 8];
+    let mut out = [blank; MOST_LITERALS];
     let mut j: usize = 0;
     while j < n {
         let a = l.at[j];
@@ -479,12 +469,12 @@ fn closed_literals(l: Literals, ks: Names) -> [Literal; 8]
 }
 
 // The constants of the variables that are kept
-fn constants(ks: Names, t: [u8; 24]) -> [u8; 12]
-    requires { ⌜ ks .n ≤ 12 ⌝ }
-    ensures { λ r. ⌜ r ≡ exactly 12 0 (map (under t) (namesIn ks)) ⌝ }
+fn constants(ks: Names, t: [u8; BOTH_VARIABLES]) -> [u8; MOST_VARIABLES]
+    requires { ⌜ ks .n ≤ mostVariables ⌝ }
+    ensures { λ r. ⌜ r ≡ exactly mostVariables 0 (map (under t) (namesIn ks)) ⌝ }
 {
     let n = count_names(ks);
-    let mut out = [0u8; 12];
+    let mut out = [0u8; MOST_VARIABLES];
     let mut j: usize = 0;
     while j < n {
         let a = ks.at[j];
@@ -505,21 +495,21 @@ fn too_large() -> Merged
 }
 
 // The last part of every merge: the limits are counted on what it gives.
-fn close_up(v: u8, az: Atoms, ls: Literals, t: [u8; 24]) -> Merged
-    requires { ⌜ (az .n ≤ 48) × (ls .n ≤ 16) × (v ≤ 24) ⌝ }
+fn close_up(v: usize, az: Atoms, ls: Literals, t: [u8; BOTH_VARIABLES]) -> Merged
+    requires { ⌜ (az .n ≤ bothAtoms) × (ls .n ≤ bothLiterals) × (v ≤ bothVariables) ⌝ }
     ensures { λ r. ⌜ r ≡ fitted (closeUp v (atomsIn az) (literalsIn ls) t) ⌝ }
 {
     let ks = kept(az, ls, v);
     let k = count_names(ks);
     let n = count_atoms(az);
     let m = count_literals(ls);
-    if 12 < k {
+    if MOST_VARIABLES < k {
         return too_large();
     }
-    if 24 < n {
+    if MOST_ATOMS < n {
         return too_large();
     }
-    if 8 < m {
+    if MOST_LITERALS < m {
         return too_large();
     }
     let atoms = closed_atoms(az, ks);
@@ -543,7 +533,7 @@ fn close_up(v: u8, az: Atoms, ls: Literals, t: [u8; 24]) -> Merged
 
 // The literal of c at j, from 0; the blank one past the last
 fn literal_at(c: Clause, j: usize) -> Literal
-    requires { ⌜ c .literalcount ≤ 8 ⌝ }
+    requires { ⌜ c .literalcount ≤ mostLiterals ⌝ }
     ensures { λ r. ⌜ r ≡ getD (clauseOf c .literals) j noLiteral ⌝ }
 {
     let n = clause_literals(c);
@@ -554,46 +544,53 @@ fn literal_at(c: Clause, j: usize) -> Literal
     no_literal()
 }
 
-fn first_atoms(c: Clause, t: [u8; 24]) -> Atoms
-    requires { ⌜ c .atomcount ≤ 24 ⌝ }
+fn first_atoms(c: Clause, t: [u8; BOTH_VARIABLES]) -> Atoms
+    requires { ⌜ c .atomcount ≤ mostAtoms ⌝ }
     ensures { λ r. ⌜ r ≡ heldAtoms (distinct (map (renameAtom (under t)) (clauseOf c .atoms))) ⌝ }
 {
     append_atoms(no_atoms(), c, 0, t)
 }
 
-fn first_literals(c: Clause, i: usize, t: [u8; 24]) -> Literals
-    requires { ⌜ c .literalcount ≤ 8 ⌝ }
+fn first_literals(c: Clause, i: usize, t: [u8; BOTH_VARIABLES]) -> Literals
+    requires { ⌜ c .literalcount ≤ mostLiterals ⌝ }
     ensures { λ r. ⌜ r ≡ heldLiterals (map (renameLiteral (under t)) (without i (clauseOf c .literals))) ⌝ }
 {
     append_literals(no_literals(), c, i, 0, t)
 }
 
-fn first_names(a: [u8; 12], u: u8) -> Names
-    requires { ⌜ u ≤ 12 ⌝ }
+fn first_names(a: [u8; MOST_VARIABLES], u: u8) -> Names
+    requires { ⌜ u ≤ mostVariables ⌝ }
     ensures { λ r. ⌜ r ≡ heldNames (take u a) ⌝ }
 {
     append_names(no_names(), a, u)
 }
 
 // The atoms of both clauses, the second's variables following the first's v
-fn both_atoms(c: Clause, d: Clause, v: u8, t: [u8; 24]) -> Atoms
-    requires { ⌜ (c .atomcount ≤ 24) × (d .atomcount ≤ 24) ⌝ }
+fn both_atoms(c: Clause, d: Clause, v: u8, t: [u8; BOTH_VARIABLES]) -> Atoms
+    requires { ⌜ (c .atomcount ≤ mostAtoms) × (d .atomcount ≤ mostAtoms) ⌝ }
     ensures { λ r. ⌜ r ≡ heldAtoms (distinct (map (renameAtom (under t)) (clauseOf c .atoms ++ map (renameAtom (apart v)) (clauseOf d .atoms)))) ⌝ }
 {
     append_atoms(first_atoms(c, t), d, v, t)
 }
 
 // The literals of both clauses but the first's at j and the second's at i
-fn both_literals(c: Clause, j: usize, d: Clause, i: usize, v: u8, t: [u8; 24]) -> Literals
-    requires { ⌜ (c .literalcount ≤ 8) × (d .literalcount ≤ 8) ⌝ }
+fn both_literals(
+    c: Clause,
+    j: usize,
+    d: Clause,
+    i: usize,
+    v: u8,
+    t: [u8; BOTH_VARIABLES],
+) -> Literals
+    requires { ⌜ (c .literalcount ≤ mostLiterals) × (d .literalcount ≤ mostLiterals) ⌝ }
     ensures { λ r. ⌜ r ≡ heldLiterals (map (renameLiteral (under t)) (without j (clauseOf c .literals) ++ map (renameLiteral (apart v)) (without i (clauseOf d .literals)))) ⌝ }
 {
     append_literals(first_literals(c, j, t), d, i, v, t)
 }
 
 // The constants of both instances
-fn both_names(a: [u8; 12], v: u8, b: [u8; 12], u: u8) -> Names
-    requires { ⌜ (v ≤ 12) × (u ≤ 12) ⌝ }
+fn both_names(a: [u8; MOST_VARIABLES], v: u8, b: [u8; MOST_VARIABLES], u: u8) -> Names
+    requires { ⌜ (v ≤ mostVariables) × (u ≤ mostVariables) ⌝ }
     ensures { λ r. ⌜ r ≡ heldNames (take v a ++ take u b) ⌝ }
 {
     append_names(first_names(a, v), b, u)
@@ -609,7 +606,7 @@ fn resolve_counted(n: Instanced, j: usize, r: Instanced, i: usize) -> Merged
     let ri = r.instance;
     let v = nc.variables;
     let u = rc.variables;
-    let w = v + u;
+    let w = v as usize + u as usize;
     let l = literal_at(nc, j);
     let k = literal_at(rc, i);
     let t = joined_arguments(start(w), l, v, k);
@@ -643,14 +640,15 @@ fn factor_counted(n: Instanced, lo: usize, hi: usize) -> Merged
     let nc = n.clause;
     let ni = n.instance;
     let v = nc.variables;
+    let w = v as usize;
     let l = literal_at(nc, lo);
     let k = literal_at(nc, hi);
-    let t = joined_arguments(start(v), l, 0, k);
+    let t = joined_arguments(start(w), l, 0, k);
     let az = first_atoms(nc, t);
     let ls = first_literals(nc, hi, t);
     let names = first_names(ni, v);
     let tau = names.at;
-    close_up(v, az, ls, tau)
+    close_up(w, az, ls, tau)
 }
 
 // "Their variables are merged; the one with the larger number goes." The two literals of the conflict n are at i and j.
@@ -670,7 +668,7 @@ pub fn factorize(n: Instanced, i: usize, j: usize) -> Merged
 // ---- the literals of one instance
 
 // Whether m's instance is g
-fn is_own(m: Literal, tau: [u8; 12], n: u8, g: Literal) -> bool
+fn is_own(m: Literal, tau: [u8; MOST_VARIABLES], n: u8, g: Literal) -> bool
     ensures { λ r. ⌜ r ≡ sameLiteral (calculus.ground (take n tau) m) g ⌝ }
 {
     let h = ground(m, tau, n);
@@ -678,8 +676,14 @@ fn is_own(m: Literal, tau: [u8; 12], n: u8, g: Literal) -> bool
 }
 
 // The literal l joined with every literal of the instance g
-fn joined_own(c: Clause, tau: [u8; 12], l: Literal, g: Literal, t: [u8; 24]) -> [u8; 24]
-    requires { ⌜ c .literalcount ≤ 8 ⌝ }
+fn joined_own(
+    c: Clause,
+    tau: [u8; MOST_VARIABLES],
+    l: Literal,
+    g: Literal,
+    t: [u8; BOTH_VARIABLES],
+) -> [u8; BOTH_VARIABLES]
+    requires { ⌜ c .literalcount ≤ mostLiterals ⌝ }
     ensures { λ r. ⌜ r ≡ joins (ownPairs (take (c .variables) tau) g l (clauseOf c .literals)) t ⌝ }
 {
     let n = clause_literals(c);
@@ -698,8 +702,14 @@ fn joined_own(c: Clause, tau: [u8; 12], l: Literal, g: Literal, t: [u8; 24]) -> 
 }
 
 // The literals of another instance, and that at i, by the table
-fn reason_literals(c: Clause, tau: [u8; 12], g: Literal, i: usize, t: [u8; 24]) -> Literals
-    requires { ⌜ c .literalcount ≤ 8 ⌝ }
+fn reason_literals(
+    c: Clause,
+    tau: [u8; MOST_VARIABLES],
+    g: Literal,
+    i: usize,
+    t: [u8; BOTH_VARIABLES],
+) -> Literals
+    requires { ⌜ c .literalcount ≤ mostLiterals ⌝ }
     ensures { λ r. ⌜ r ≡ heldLiterals (map (renameLiteral (under t)) (reasonLiterals (take (c .variables) tau) g i (clauseOf c .literals))) ⌝ }
 {
     let n = clause_literals(c);
@@ -736,8 +746,8 @@ fn least(a: usize, b: usize) -> usize
 }
 
 // Where the literal at i then stands
-fn own_index(c: Clause, tau: [u8; 12], g: Literal, i: usize) -> usize
-    requires { ⌜ c .literalcount ≤ 8 ⌝ }
+fn own_index(c: Clause, tau: [u8; MOST_VARIABLES], g: Literal, i: usize) -> usize
+    requires { ⌜ c .literalcount ≤ mostLiterals ⌝ }
     ensures { λ r. ⌜ r ≡ ownIndex (take (c .variables) tau) g i (clauseOf c .literals) ⌝ }
 {
     let n = clause_literals(c);
@@ -755,20 +765,21 @@ fn own_index(c: Clause, tau: [u8; 12], g: Literal, i: usize) -> usize
     k
 }
 
-fn reason_counted(c: Clause, i: usize, tau: [u8; 12]) -> Reason
+fn reason_counted(c: Clause, i: usize, tau: [u8; MOST_VARIABLES]) -> Reason
     requires { ⌜ Counted c ⌝ }
     ensures { λ r. ⌜ r ≡ packedReason (reason (clauseOf c) i (take (c .variables) tau)) ⌝ }
 {
     let v = c.variables;
+    let w = v as usize;
     let l = literal_at(c, i);
     let g = ground(l, tau, v);
-    let t = joined_own(c, tau, l, g, start(v));
+    let t = joined_own(c, tau, l, g, start(w));
     let az = first_atoms(c, t);
     let ls = reason_literals(c, tau, g, i, t);
     let own = own_index(c, tau, g, i);
     let names = first_names(tau, v);
     let at = names.at;
-    let m = close_up(v, az, ls, at);
+    let m = close_up(w, az, ls, at);
     let of = m.of;
     Reason { of: of, own: own }
 }
@@ -781,7 +792,7 @@ fn no_reason() -> Reason
 }
 
 // "Its reason is the clause after merging L with all literals of the same instance; L keeps its place, the others go." L is the literal at i.
-pub fn reason_of(c: Clause, i: usize, tau: [u8; 12]) -> Reason
+pub fn reason_of(c: Clause, i: usize, tau: [u8; MOST_VARIABLES]) -> Reason
     ensures { λ r. ⌜ r ≡ reasonOf c i tau ⌝ }
 {
     if !counted(c) {

@@ -84,15 +84,17 @@ classChecks C =
     differencesBounded (C .atoms) or lacksBound ∷ []
 
 -- "Input clauses, then each: variables, atoms, literals, the atoms .., the literals"
-unfoldable pub clause : List ℕ → Reader Clause
-clause arities =
-    (count mostVariables then λ v.
+abbrev pub clauseFields : List ℕ → Reader Clause
+clauseFields arities =
+    count mostVariables then λ v.
     count mostAtoms then λ n.
     count mostLiterals then λ m.
     times n (atom v) then λ az.
     times m (literal arities v) then λ ls.
-    give (record { variables = v; atoms = az; literals = ls }))
-    judged classChecks
+    give (record { variables = v; atoms = az; literals = ls })
+
+unfoldable pub clause : List ℕ → Reader Clause
+clause arities = clauseFields arities judged classChecks
 
 -- ---- steps
 

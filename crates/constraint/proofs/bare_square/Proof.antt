@@ -13,6 +13,8 @@ use Rattle.constraint.proofs.Bare.{bare, bare-stands, bare-row}
 use Rattle.constraint.proofs.bare_square.Statement.{statement}
 use Rattle.constraint.proofs.bare_square.Tie as tie
 
+-- The bare square: after i turns the first i rows have their 0 on the diagonal.
+
 abbrev Inv-loop : tie.InvT-loop
 Inv-loop t₀ i₀ t i = (i ≤ places) × (t₀ ≡ replicate places (replicate places (pos far))) × Upto [] (λ k row. (j : ℕ) → j < places → at row j ≡ bare k j) t₀ t i
 

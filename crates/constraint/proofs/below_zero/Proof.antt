@@ -8,6 +8,8 @@ use Rattle.integers.proofs.Machine.{sum-fits, sum-back}
 use Rattle.constraint.proofs.below_zero.Statement.{statement}
 use Rattle.constraint.proofs.below_zero.Tie as tie
 
+-- The sum of a bound that is put in and one of the square does not overflow.
+
 add-result : tie.Need-add-result
 add-result c = sum-fits w64 (c .pre .0) (c .pre .1) (lit< tt)
 

@@ -13,6 +13,8 @@ use Rattle.constraint.proofs.Refusals.{improper-at}
 use Rattle.constraint.proofs.first_improper.Statement.{statement}
 use Rattle.constraint.proofs.first_improper.Tie as tie
 
+-- The atoms passed are proper; the first that is not is the answer.
+
 abbrev Inv-loop : tie.InvT-loop
 Inv-loop constants count atoms k₀ k = (k ≤ count) × (count ≤ mostTested) × ((j : ℕ) → j < k → Proper constants (atomAt atoms j))
 

@@ -8,6 +8,8 @@ use Rattle.integers.proofs.Order.{ltZ-true, ltZ-false}
 use Rattle.constraint.proofs.in_range.Statement.{statement}
 use Rattle.constraint.proofs.in_range.Tie as tie
 
+-- Two tests of what the machine reads back of c.
+
 sub-if1 : tie.Need-sub-if1
 sub-if1 c = search needs
 

@@ -1,5 +1,6 @@
--- After k turns the square stands for the order and the first k atoms. The helpers say that what the calls are handed is the atom's.
+-- After k turns the square stands for the order and the first k atoms. The helpers say that what the calls and tests are handed is the atom's and the square's.
 use mathlib.Core.Path.{_≡_, sym, ap, ap₂, _∙_, subst}
+use mathlib.Core.Logic.{⊎-elim}
 use Prim.Native.Nat.{ℕ, _-_, _≤_, _<_}
 use native.Mathlib.Omega.{arith}
 use lib.Dec.{lit<}
@@ -11,9 +12,11 @@ use mir.Facts.{toZ-ofZ}
 use borrow.Author.Needs.{needs, sfits-of}
 use Rattle.basis.specs.declared.Atom.{Atom}
 use Rattle.integers.specs.Sides.{Within}
+use Rattle.integers.proofs.Order.{ltZ-false}
 use Rattle.integers.proofs.Machine.{back}
 use Rattle.bounds.specs.Whole.{wholeBounds}
 use Rattle.bounds.specs.Squares.{put}
+use Rattle.bounds.proofs.Put.{put-had}
 use Rattle.constraint.specs.Test.{Accepted, atomAt}
 use Rattle.constraint.specs.Square.{places, mostBound, far, entry, Stands, Posed}
 use Rattle.constraint.proofs.Steps.{atoms-none, atoms-more, place-p, place-q, within-c}
@@ -68,12 +71,15 @@ c-is w = toZ-ofZ {w = w64} (sfits-of (w .widen .ok)) ∙ w .widen .ensures ∙ b
 c-within : (w : tie.After-widen Inv-loop μ-loop) → Within mostBound (toZ w64 (ofZ w64 (w .widen .result)))
 c-within w = subst (Within mostBound) (sym (c-is w)) (within-c _ _ _ (turn w .loop .inv .1) (turn w .loop .k) (search needs))
 
--- .. and the bound the other way.
+-- .. and the bounds of the square, the other way round and the same.
 back-small : (w : tie.After-widen Inv-loop μ-loop) → Within far (entry (turn w .loop .t) (atom w .q) (atom w .p))
 back-small w = turn w .loop .inv .2 .sound .small (atom w .q) (atom w .p) (q-fits w) (p-fits w)
 
 back-within : (w : tie.After-widen Inv-loop μ-loop) → Within far (toZ w64 (ofZ w64 (entry (turn w .loop .t) (atom w .q) (atom w .p))))
 back-within w = subst (Within far) (sym (back w64 (back-small w) (lit< tt))) (back-small w)
+
+had-is : (w : tie.After-widen Inv-loop μ-loop) → toZ w64 (ofZ w64 (entry (turn w .loop .t) (atom w .p) (atom w .q))) ≡ entry (turn w .loop .t) (atom w .p) (atom w .q)
+had-is w = back w64 (turn w .loop .inv .2 .sound .small (atom w .p) (atom w .q) (p-fits w) (q-fits w)) (lit< tt)
 
 -- So the test speaks of them.
 tells : (w : tie.After-below-zero Inv-loop μ-loop) → w .below-zero .result ≡ ltZ (atom (w .before .before) .c +ℤ entry (turn (w .before .before) .loop .t) (atom (w .before .before) .q) (atom (w .before .before) .p)) (pos 0)
@@ -98,8 +104,21 @@ returns : tie.Need-returns Inv-loop μ-loop
 returns c = let w = c .before .before .before in
     answer-no _ _ _ (turn w .loop .inv .1) (turn w .loop .k) (search needs) (turn w .loop .t) (turn w .loop .inv .2) (sym (tells (c .before)) ∙ c .if1 .taken)
 
+mul-if2 : tie.Need-mul-if2 Inv-loop μ-loop
+mul-if2 c = search needs
+
+mul-if2-2 : tie.Need-mul-if2-2 Inv-loop μ-loop
+mul-if2-2 c = search needs
+
+index-1-if2 : tie.Need-index-1-if2 Inv-loop μ-loop
+index-1-if2 c = let w = c .before .before .before in omega (arith, p-fits w, q-fits w)
+
+index-2-if2 : tie.Need-index-2-if2 Inv-loop μ-loop
+index-2-if2 c = let w = c .before .before .before in omega (arith, p-fits w, q-fits w)
+
 put-bound-requires : tie.Need-put-bound-requires Inv-loop μ-loop
-put-bound-requires c κs = let w = c .before .before .before in (omega (arith, p-fits w, q-fits w), omega (arith, p-fits w, q-fits w), c-within w, turn w .loop .inv .2 .sound)
+put-bound-requires c κs = let w = c .before .before .before .before .before in
+    (omega (arith, p-fits w, q-fits w), omega (arith, p-fits w, q-fits w), c-within w, turn w .loop .inv .2 .sound)
 
 add-k : tie.Need-add-k Inv-loop μ-loop
 add-k c = search needs
@@ -108,13 +127,19 @@ loop-less : tie.Need-loop-less Inv-loop μ-loop
 loop-less c = search needs
 
 loop-again : tie.Need-loop-again Inv-loop μ-loop
-loop-again c = let w = c .before .before .before .before in
-    let e = c-is w in (
+loop-again c = let w = c .before .before .before .before .before in
+    let s = turn w in
+    let more = atoms-more _ _ _ (s .loop .inv .1) (s .loop .k) (search needs) (s .loop .t) in
+    let zero = sym (tells (c .before .before .before)) ∙ c .before .before .if1 .left in (
       omega arith,
-      turn w .loop .inv .1,
-      atoms-more _ _ _ (turn w .loop .inv .1) (turn w .loop .k) (search needs) (turn w .loop .t) (c .put-bound .result) (turn w .loop .inv .2)
-          (λ i j hi hj. c .put-bound .ensures i j hi hj ∙ ap (λ (x : ℤ). put wholeBounds (entry (turn w .loop .t)) (atom w .p) (atom w .q) x i j) e)
-          (sym (tells (c .before .before)) ∙ c .before .if1 .left),
+      s .loop .inv .1,
+      ⊎-elim
+          (λ h. rw (h .2) (more (h .1 .result) (s .loop .inv .2)
+          (λ i j hi hj. h .1 .ensures i j hi hj ∙ ap (λ (x : ℤ). put wholeBounds (entry (s .loop .t)) (atom w .p) (atom w .q) x i j) (c-is w)) zero))
+          (λ h. rw (h .1) (more (s .loop .t) (s .loop .inv .2)
+          (λ i j hi hj. sym (put-had wholeBounds places (entry (s .loop .t)) (s .loop .inv .2 .sound .closed) (atom w .p) (atom w .q) (atom w .c) (p-fits w) (q-fits w)
+          (ltZ-false (sym (ap₂ ltZ (c-is w) (had-is w)) ∙ h .0 .left)) i j hi hj)) zero))
+          (c .if2 .came),
     )
 
 returns-2 : tie.Need-returns-2 Inv-loop μ-loop
@@ -140,6 +165,10 @@ kept-spec =
     index-2-back
     below-zero-requires
     returns
+    mul-if2
+    mul-if2-2
+    index-1-if2
+    index-2-if2
     put-bound-requires
     add-k
     loop-less

@@ -8,6 +8,8 @@ use Rattle.constraint.proofs.Sums.{lower-taken, lower-left}
 use Rattle.constraint.proofs.lowered.Statement.{statement}
 use Rattle.constraint.proofs.lowered.Tie as tie
 
+-- The sum does not overflow, and the test picks the lower bound.
+
 add-new : tie.Need-add-new
 add-new c = sum-fits w64 (c .pre .0) (c .pre .1) (lit< tt)
 

@@ -17,6 +17,8 @@ use Rattle.constraint.specs.Square.{places, far, mostChain, at}
 use Rattle.constraint.proofs.lowered_row.Statement.{statement}
 use Rattle.constraint.proofs.lowered_row.Tie as tie
 
+-- After j turns the first j bounds of the row are lowered.
+
 abbrev Inv-loop : tie.InvT-loop
 Inv-loop start via out₀ j₀ out j = (j ≤ places) × (length out₀ ≡ places) × Upto (pos 0) (λ k x. x ≡ lower wholeBounds (toZ w64 start +ℤ at via k) (at out₀ k)) out₀ out j
 

@@ -8,6 +8,8 @@ use Rattle.constraint.proofs.Steps.{order-none, order-more, order-all}
 use Rattle.constraint.proofs.ordered.Statement.{statement}
 use Rattle.constraint.proofs.ordered.Tie as tie
 
+-- Before the turn of i the square stands for the order as far as the constant i.
+
 abbrev Inv-loop : tie.InvT-loop
 Inv-loop constants t₀ i₀ t i = (1 ≤ i) × (i ≤ max constants 1) × (constants ≤ mostConstants) × Stands (Ordered i) t
 

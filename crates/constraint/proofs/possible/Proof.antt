@@ -8,6 +8,8 @@ use Rattle.constraint.proofs.Refusals.{improper-most, refused, accepted
 use Rattle.constraint.proofs.possible.Statement.{statement}
 use Rattle.constraint.proofs.possible.Tie as tie
 
+-- Each return is one case of what the answers say.
+
 returns : tie.Need-returns
 returns c = Refusal.too-many (λ h. omega (arith, h .few-constants))
 

@@ -11,6 +11,8 @@ use Rattle.constraint.proofs.Refusals.{proper-by-range}
 use Rattle.constraint.proofs.proper.Statement.{statement}
 use Rattle.constraint.proofs.proper.Tie as tie
 
+-- Each return but the last shows one fault; the last leaves the range to decide.
+
 cast-p : tie.Need-cast-p
 cast-p c = search needs
 

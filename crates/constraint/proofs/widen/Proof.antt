@@ -6,6 +6,8 @@ use mir.Facts.{toZ-ofZ, sfits-widen}
 use Rattle.constraint.proofs.widen.Statement.{statement}
 use Rattle.constraint.proofs.widen.Tie as tie
 
+-- A number of 32 bits fits 64.
+
 cast-result : tie.Need-cast-result
 cast-result c = subst (SFits w64) (sym (toZ-ofZ (c .fits .c))) (sfits-widen tt (c .fits .c))
 

@@ -9,10 +9,9 @@ use borrow.Author.Needs.{needs}
 use Rattle.basis.specs.declared.Atom.{Atom}
 use Rattle.basis.specs.Atoms.{noAtom}
 use Rattle.lists.specs.Arrays.{exactly}
-use Rattle.lists.proofs.Arrays.{exactly-none}
+use Rattle.lists.proofs.Arrays.{exactly-none, mapped-turn}
 use Rattle.calculus.specs.Clauses.{renameAtom}
 use Rattle.merging.specs.Scratch.{namesIn, closed}
-use Rattle.merging.proofs.Held.{mapped-turn}
 use Rattle.merging.proofs.closed_atoms.Statement.{statement}
 use Rattle.merging.proofs.closed_atoms.Tie as tie
 

@@ -8,10 +8,9 @@ use lib.ListN.{set, take}
 use borrow.Author.Needs.{needs}
 use Rattle.basis.specs.declared.Literal.{Literal}
 use Rattle.lists.specs.Arrays.{exactly}
-use Rattle.lists.proofs.Arrays.{exactly-none}
+use Rattle.lists.proofs.Arrays.{exactly-none, mapped-turn}
 use Rattle.calculus.specs.Clauses.{noLiteral, renameLiteral}
 use Rattle.merging.specs.Scratch.{namesIn, closed}
-use Rattle.merging.proofs.Held.{mapped-turn}
 use Rattle.merging.proofs.closed_literals.Statement.{statement}
 use Rattle.merging.proofs.closed_literals.Tie as tie
 

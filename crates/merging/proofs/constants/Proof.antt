@@ -7,9 +7,8 @@ use native.Mathlib.Omega.{arith}
 use lib.ListN.{getD, set, take}
 use borrow.Author.Needs.{needs}
 use Rattle.lists.specs.Arrays.{exactly}
-use Rattle.lists.proofs.Arrays.{exactly-none}
+use Rattle.lists.proofs.Arrays.{exactly-none, mapped-turn}
 use Rattle.calculus.specs.Clauses.{under}
-use Rattle.merging.proofs.Held.{mapped-turn}
 use Rattle.merging.proofs.Whole.{apart-none}
 use Rattle.merging.proofs.constants.Statement.{statement}
 use Rattle.merging.proofs.constants.Tie as tie

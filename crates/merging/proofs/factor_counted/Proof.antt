@@ -15,6 +15,9 @@ use Rattle.merging.proofs.Whole.{apart-none, atoms-few, literals-few, f
 use Rattle.merging.proofs.factor_counted.Statement.{statement}
 use Rattle.merging.proofs.factor_counted.Tie as tie
 
+cast-w : tie.Need-cast-w
+cast-w c = search needs
+
 literal-at-requires : tie.Need-literal-at-requires
 literal-at-requires c κs = search needs
 
@@ -61,6 +64,7 @@ pub factor-counted-spec : {M : Type 1} → statement M
 factor-counted-spec =
     tie.close
     (tie.spec
+    cast-w
     literal-at-requires
     literal-at-requires-2
     start-requires

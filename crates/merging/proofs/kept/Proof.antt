@@ -28,6 +28,9 @@ loop-holds c = (omega arith, omega (arith, ap (λ (l : Names). l .n) (c .no-name
 add-y : tie.Need-add-y Inv-loop μ-loop
 add-y c = search needs
 
+cast-name : tie.Need-cast-name Inv-loop μ-loop
+cast-name c = search needs
+
 occurs-requires : tie.Need-occurs-requires Inv-loop μ-loop
 occurs-requires c κs = search needs
 
@@ -73,6 +76,7 @@ kept-spec =
     no-names-requires
     loop-holds
     add-y
+    cast-name
     occurs-requires
     element-write-out
     add-out

@@ -15,6 +15,9 @@ use Rattle.merging.proofs.Whole.{atoms-few, literals-few, few-atoms, me
 use Rattle.merging.proofs.reason_counted.Statement.{statement}
 use Rattle.merging.proofs.reason_counted.Tie as tie
 
+cast-w : tie.Need-cast-w
+cast-w c = search needs
+
 literal-at-requires : tie.Need-literal-at-requires
 literal-at-requires c κs = search needs
 
@@ -74,6 +77,7 @@ pub reason-counted-spec : {M : Type 1} → statement M
 reason-counted-spec =
     tie.close
     (tie.spec
+    cast-w
     literal-at-requires
     ground-requires
     start-requires

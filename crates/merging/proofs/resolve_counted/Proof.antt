@@ -6,15 +6,21 @@ use Prim.Native.Nat.{_+_}
 use native.Mathlib.Omega.{arith}
 use lib.ListN.{getD, take, length-take, length-append}
 use borrow.Author.Needs.{needs}
-use Rattle.calculus.specs.Clauses.{arguments, noLiteral, renameAtom, renameLiteral}
-use Rattle.merging.proofs.Whole.{atoms-few, literals-few, few-both-atoms, few-both-others, merge-made}
 use Rattle.basis.specs.declared.Literal.{Literal}
 use Rattle.lists.specs.Lists.{without, pairUp}
+use Rattle.calculus.specs.Clauses.{arguments, noLiteral, renameAtom, renameLiteral}
 use Rattle.calculus.specs.Merging.{joins, apart, resolvent}
 use Rattle.clauses.specs.Records.{clauseOf}
 use Rattle.merging.specs.Results.{fitted}
+use Rattle.merging.proofs.Whole.{atoms-few, literals-few, few-both-atoms, few-both-others, merge-made}
 use Rattle.merging.proofs.resolve_counted.Statement.{statement}
 use Rattle.merging.proofs.resolve_counted.Tie as tie
+
+cast-w : tie.Need-cast-w
+cast-w c = search needs
+
+cast-w-2 : tie.Need-cast-w-2
+cast-w-2 c = search needs
 
 add-w : tie.Need-add-w
 add-w c = search needs
@@ -73,6 +79,8 @@ pub resolve-counted-spec : {M : Type 1} → statement M
 resolve-counted-spec =
     tie.close
     (tie.spec
+    cast-w
+    cast-w-2
     add-w
     literal-at-requires
     literal-at-requires-2

@@ -1,0 +1,82 @@
+-- `admission::clean_literals` meets its contract.
+-- The invariant: what is made so far is what the definition makes of the elements passed; the measure: how many are left.
+use mathlib.Core.Path.{_≡_, sym, _∙_, ap, ap₂}
+use mathlib.Core.List.{List, map}
+use Prim.Native.Nat.{_≤_, _-_}
+use native.Mathlib.Omega.{arith}
+use lib.ListN.{length, set, take}
+use borrow.Author.Needs.{needs}
+use Rattle.basis.specs.declared.Literal.{Literal}
+use Rattle.lists.specs.Arrays.{exactly}
+use Rattle.lists.proofs.Arrays.{exactly-none, exactly-take, mapped-turn}
+use Rattle.calculus.specs.Clauses.{noLiteral}
+use Rattle.admission.specs.Offered.{offeredArities, cleaned}
+use Rattle.admission.proofs.clean_literals.Statement.{statement}
+use Rattle.admission.proofs.clean_literals.Tie as tie
+
+abbrev Inv-loop : tie.InvT-loop
+Inv-loop predicates arities c n out₀ j₀ out j = (j ≤ n) × (out ≡ exactly 8 noLiteral (map (cleaned (offeredArities predicates arities)) (take j (c .literals))))
+
+abbrev μ-loop : tie.MeasureT-loop
+μ-loop predicates arities c n out₀ j₀ out j = n - j
+
+clause-literals-requires : tie.Need-clause-literals-requires Inv-loop μ-loop
+clause-literals-requires c κs = search needs
+
+loop-holds : tie.Need-loop-holds Inv-loop μ-loop
+loop-holds c = (omega arith, sym (exactly-none noLiteral 8))
+
+mul-l : tie.Need-mul-l Inv-loop μ-loop
+mul-l c = search needs
+
+element-copy-out-l : tie.Need-element-copy-out-l Inv-loop μ-loop
+element-copy-out-l c = search needs
+
+clean-literal-requires : tie.Need-clean-literal-requires Inv-loop μ-loop
+clean-literal-requires c κs = search needs
+
+mul-out : tie.Need-mul-out Inv-loop μ-loop
+mul-out c = search needs
+
+array-set-from-out : tie.Need-array-set-from-out Inv-loop μ-loop
+array-set-from-out c = search needs
+
+add-j : tie.Need-add-j Inv-loop μ-loop
+add-j c = search needs
+
+loop-less : tie.Need-loop-less Inv-loop μ-loop
+loop-less c = search needs
+
+loop-again : tie.Need-loop-again Inv-loop μ-loop
+loop-again c =
+    let a = c .before .before .before .before .before .args in
+    let s = c .before .before .before .loop in (
+      omega arith,
+      ap₂ (λ (l : List Literal) (x : Literal). set l (s .j) x) (s .inv .1) (c .clean-literal .ensures)
+          ∙ mapped-turn (cleaned (offeredArities (a .predicates) (a .arities))) 8 noLiteral noLiteral (a .t3 .literals) (s .j) (omega arith) (omega arith),
+    )
+
+returns : tie.Need-returns Inv-loop μ-loop
+returns c =
+    let a = c .before .before .before .args in
+    let e : c .before .loop .j ≡ a .t3 .literalcount = omega arith in
+    let h : a .t3 .literalcount ≤ length (a .t3 .literals) = omega arith in
+    rw e at (c .before .loop .inv .1) ∙ ap (λ (l : List Literal). exactly 8 noLiteral (map (cleaned (offeredArities (a .predicates) (a .arities))) l)) (sym (exactly-take noLiteral (a .t3 .literalcount) (a .t3 .literals) h))
+
+pub clean-literals-spec : {M : Type 1} → statement M
+clean-literals-spec =
+    tie.close
+    (tie.spec
+    Inv-loop
+    μ-loop
+    clause-literals-requires
+    loop-holds
+    mul-l
+    element-copy-out-l
+    clean-literal-requires
+    mul-out
+    array-set-from-out
+    add-j
+    loop-less
+    loop-again
+    returns)

@@ -1,0 +1,69 @@
+-- `admission::proper_literals` meets its contract.
+-- The invariant: what is made so far is what the definition makes of the elements passed; the measure: how many are left.
+use mathlib.Core.Path.{_≡_, refl, sym, _∙_}
+use mathlib.Core.Bool.{true}
+use Prim.Native.Nat.{_≤_, _-_}
+use native.Mathlib.Omega.{arith}
+use lib.ListN.{take}
+use borrow.Author.Needs.{needs}
+use borrow.Author.Tests.{not-true, not-false}
+use Rattle.lists.specs.Lists.{allOf}
+use Rattle.lists.proofs.Walks.{allOf-and, allOf-fails}
+use Rattle.calculus.specs.Clauses.{noLiteral}
+use Rattle.calculus.specs.Class.{properLiteral}
+use Rattle.admission.specs.Offered.{offeredArities}
+use Rattle.admission.proofs.proper_literals.Statement.{statement}
+use Rattle.admission.proofs.proper_literals.Tie as tie
+
+abbrev Inv-loop : tie.InvT-loop
+Inv-loop predicates arities c n j₀ j = (j ≤ n) × (allOf (properLiteral (offeredArities predicates arities) (c .variables)) (take j (c .literals)) ≡ true)
+
+abbrev μ-loop : tie.MeasureT-loop
+μ-loop predicates arities c n j₀ j = n - j
+
+clause-literals-requires : tie.Need-clause-literals-requires Inv-loop μ-loop
+clause-literals-requires c κs = search needs
+
+loop-holds : tie.Need-loop-holds Inv-loop μ-loop
+loop-holds c = (omega arith, refl)
+
+mul-l : tie.Need-mul-l Inv-loop μ-loop
+mul-l c = search needs
+
+element-copy-out-l : tie.Need-element-copy-out-l Inv-loop μ-loop
+element-copy-out-l c = search needs
+
+proper-literal-requires : tie.Need-proper-literal-requires Inv-loop μ-loop
+proper-literal-requires c κs = search needs
+
+returns : tie.Need-returns Inv-loop μ-loop
+returns c = let a = c .before .before .before .before .before .before .args in sym (allOf-fails (properLiteral (offeredArities (a .predicates) (a .arities)) (a .t3 .variables)) (a .t3 .literals) (c .before .before .before .before .loop .j) (a .t3 .literalcount) noLiteral (omega arith) (omega arith) (sym (c .before .proper-literal .ensures) ∙ not-true (c .before .proper-literal .result) (c .if1 .taken)))
+
+add-j : tie.Need-add-j Inv-loop μ-loop
+add-j c = search needs
+
+loop-less : tie.Need-loop-less Inv-loop μ-loop
+loop-less c = search needs
+
+loop-again : tie.Need-loop-again Inv-loop μ-loop
+loop-again c = let a = c .before .before .before .before .before .before .args in (omega arith, allOf-and (properLiteral (offeredArities (a .predicates) (a .arities)) (a .t3 .variables)) (a .t3 .literals) (c .before .before .before .before .loop .j) noLiteral (omega arith) (c .before .before .before .before .loop .inv .1) (sym (c .before .proper-literal .ensures) ∙ not-false (c .before .proper-literal .result) (c .if1 .left)))
+
+returns-2 : tie.Need-returns-2 Inv-loop μ-loop
+returns-2 c = let e : c .before .loop .j ≡ c .before .before .before .args .t3 .literalcount = omega arith in rw e at (sym (c .before .loop .inv .1))
+
+pub proper-literals-spec : {M : Type 1} → statement M
+proper-literals-spec =
+    tie.close
+    (tie.spec
+    Inv-loop
+    μ-loop
+    clause-literals-requires
+    loop-holds
+    mul-l
+    element-copy-out-l
+    proper-literal-requires
+    returns
+    add-j
+    loop-less
+    loop-again
+    returns-2)

@@ -1,3 +1,0 @@
--- Laws of the walks over variables and atoms.
-pub mod Counting
-pub mod Bounds

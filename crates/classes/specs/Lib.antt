@@ -1,2 +1,0 @@
--- A part of the clause class's test.
-pub mod Tests

@@ -1,0 +1,24 @@
+use native.Mathlib.Omega.{arith}
+use lib.ListN.{length-map}
+use Rattle.basis.specs.Limits.{mostLiterals}
+use Rattle.trail.proofs.Counts.{counted-all, counted-most}
+use borrow.Author.Needs.{needs}
+use Rattle.trail.proofs.instances_of.Statement.{statement}
+use Rattle.trail.proofs.instances_of.Tie as tie
+use Rattle.trail.proofs.instances_of.Reads as reads
+use Rattle.trail.proofs.instances_of.Lts as lts
+
+-- src/lib.rt:382:16
+cast-result : tie.Need-cast-result
+cast-result c = search needs
+
+-- src/lib.rt:382:9
+returns : tie.Need-returns
+returns c = counted-all _ _ _ (simp length-map at (c .before .before .before .good .0 .1 .1 .1 .0 .1 .0 .1)) (omega arith)
+
+-- src/lib.rt:378:1
+returns-2 : tie.Need-returns-2
+returns-2 c = counted-most _ _ _ (simp length-map at (c .before .before .good .0 .1 .1 .1 .0 .1 .0 .1)) (omega arith)
+
+pub instances-of-spec : {M : Type 1} → statement M
+instances-of-spec = tie.close (tie.spec cast-result returns returns-2)
