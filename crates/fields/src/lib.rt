@@ -7,6 +7,14 @@ ghost use lib.ListN.{length, take, drop};
 ghost use Rattle.lists.specs.Lists.{sameList};
 ghost use Rattle.runfile.specs.File.{number, byte, count, within, second, constant, rule, letters, mark, version, mostSteps, stepCount};
 ghost use Rattle.fields.specs.Views.{Fits, Told, after, viewed, refusedFrom};
+use basis::ABOVE_LIMIT;
+use basis::ENDS_INSIDE;
+use basis::OUT_OF_RANGE;
+use basis::UNKNOWN_RULE;
+use basis::WRONG_MARK;
+
+// "The number of steps (16 bits, at most 2,000)"
+const MOST_STEPS: u32 = 2000;
 
 // The place reached; or a refusal's number and its place.
 pub enum Cursor {
@@ -63,7 +71,7 @@ pub fn byte_at(s: &[u8], at: Cursor) -> Byte
             Byte {
                 value: 0,
                 at: Cursor::Refused {
-                    number: 1,
+                    number: ENDS_INSIDE,
                     place: place,
                 },
             }
@@ -93,7 +101,7 @@ fn pair_at(s: &[u8], at: Cursor) -> Wide
             Wide {
                 value: 0,
                 at: Cursor::Refused {
-                    number: 1,
+                    number: ENDS_INSIDE,
                     place: place,
                 },
             }
@@ -127,7 +135,7 @@ fn quad_at(s: &[u8], at: Cursor) -> Wide
             Wide {
                 value: 0,
                 at: Cursor::Refused {
-                    number: 1,
+                    number: ENDS_INSIDE,
                     place: place,
                 },
             }
@@ -171,13 +179,13 @@ pub fn refuse(start: Cursor, end: Cursor, number: u8) -> Cursor
 }
 
 // A count, at most so many
-pub fn count_at(s: &[u8], at: Cursor, most: u8) -> Byte
+pub fn count_at(s: &[u8], at: Cursor, most: usize) -> Byte
     ensures { λ r. ⌜ Told 0 (r .at) (r .value) (after at (count most (now (s .entry)))) × (r .value ≤ most) ⌝ }
 {
     let read = byte_at(s, at);
     let value = read.value;
     let end = read.at;
-    if value <= most {
+    if value as usize <= most {
         return Byte {
             value: value,
             at: end,
@@ -185,7 +193,7 @@ pub fn count_at(s: &[u8], at: Cursor, most: u8) -> Byte
     }
     Byte {
         value: 0,
-        at: refuse(at, end, 3),
+        at: refuse(at, end, ABOVE_LIMIT),
     }
 }
 
@@ -199,7 +207,7 @@ pub fn within_at(s: &[u8], at: Cursor, least: u8, most: u8) -> Byte
     if value < least {
         return Byte {
             value: 0,
-            at: refuse(at, end, 4),
+            at: refuse(at, end, OUT_OF_RANGE),
         };
     }
     if value <= most {
@@ -210,7 +218,7 @@ pub fn within_at(s: &[u8], at: Cursor, least: u8, most: u8) -> Byte
     }
     Byte {
         value: 0,
-        at: refuse(at, end, 4),
+        at: refuse(at, end, OUT_OF_RANGE),
     }
 }
 
@@ -224,7 +232,7 @@ pub fn second_at(s: &[u8], at: Cursor, v: u8, p: u8) -> Byte
     if v < value {
         return Byte {
             value: 0,
-            at: refuse(at, end, 4),
+            at: refuse(at, end, OUT_OF_RANGE),
         };
     }
     if p != 0 {
@@ -241,7 +249,7 @@ pub fn second_at(s: &[u8], at: Cursor, v: u8, p: u8) -> Byte
     }
     Byte {
         value: 0,
-        at: refuse(at, end, 4),
+        at: refuse(at, end, OUT_OF_RANGE),
     }
 }
 
@@ -267,7 +275,7 @@ pub fn constant_at(s: &[u8], at: Cursor) -> Constant
     }
     Constant {
         value: 0,
-        at: refuse(at, end, 4),
+        at: refuse(at, end, OUT_OF_RANGE),
     }
 }
 
@@ -281,7 +289,7 @@ pub fn rule_at(s: &[u8], at: Cursor) -> Byte
     if value < 1 {
         return Byte {
             value: 0,
-            at: refuse(at, end, 7),
+            at: refuse(at, end, UNKNOWN_RULE),
         };
     }
     if value <= 8 {
@@ -292,7 +300,7 @@ pub fn rule_at(s: &[u8], at: Cursor) -> Byte
     }
     Byte {
         value: 0,
-        at: refuse(at, end, 7),
+        at: refuse(at, end, UNKNOWN_RULE),
     }
 }
 
@@ -303,7 +311,7 @@ pub fn step_count_at(s: &[u8], at: Cursor) -> Wide
     let read = pair_at(s, at);
     let value = read.value;
     let end = read.at;
-    if value <= 2000 {
+    if value <= MOST_STEPS {
         return Wide {
             value: value,
             at: end,
@@ -311,7 +319,7 @@ pub fn step_count_at(s: &[u8], at: Cursor) -> Wide
     }
     Wide {
         value: 0,
-        at: refuse(at, end, 3),
+        at: refuse(at, end, ABOVE_LIMIT),
     }
 }
 
@@ -325,7 +333,7 @@ pub fn version_at(s: &[u8], at: Cursor) -> Cursor
     if value == 1 {
         return end;
     }
-    refuse(at, end, 2)
+    refuse(at, end, WRONG_MARK)
 }
 
 // Whether the bytes b stand in s from i on.
@@ -354,12 +362,12 @@ pub fn mark_at(s: &[u8], at: Cursor) -> Cursor
                     return Cursor::At { place: place + 3 };
                 }
                 return Cursor::Refused {
-                    number: 2,
+                    number: WRONG_MARK,
                     place: place,
                 };
             }
             Cursor::Refused {
-                number: 1,
+                number: ENDS_INSIDE,
                 place: place,
             }
         }

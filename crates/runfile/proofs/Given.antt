@@ -1,26 +1,25 @@
 -- What each reading gives: a value of which something is known and a place in the file, or a refusal. From the fields up to the file.
-use mathlib.Core.Path.{_∙_, _≡_, refl}
-use mathlib.Core.List.{List, List·Memᴰ·not-nil, List·Memᴰ·head, List·Memᴰ·tail, List·Memᴰ, List·Memᴰ·head, List·Memᴰ·not-nil, List·Memᴰ·tail, [], _++_, _∷_}
+use mathlib.Core.Path.{_∙_, _≡_, ap, refl}
+use mathlib.Core.List.{List, List·Memᴰ, List·Memᴰ·head, List·Memᴰ·not-nil, List·Memᴰ·tail, [], _++_, _∷_}
 use mathlib.Core.Bool.{Bool, _&&_, cond, false, true}
-use Prim.Native.Nat.{_+_, _≤_, suc, zero, ℕ}
+use Prim.Native.Nat.{_+_, _<_, _≤_, suc, zero, ℕ}
 use native.Mathlib.Omega.{arith}
-use lib.Dec.{T, eqb·suc-zero, eqb, eqb·suc-zero, leb, leb→le, le→leb}
+use lib.Dec.{T, eqb, eqb·suc-zero, leb, leb→le, le→leb}
 use lib.IntN.{negℤ, pos, ℤ}
 use lib.ListN.{drop, length, length-append, length-drop, length-take, take}
 use lib.Seq.{drop-nil, take-nil}
 use lib.Signed.{leZ}
-use borrow.Author.Tests.{le-leb, leb-true}
+use borrow.Author.Tests.{leb-false, le-leb, leb-false, leb-true, lt-leb}
 use Rattle.basis.specs.Limits.{mostArguments, mostAtoms, mostC, mostConstants, mostInput, mostLiterals, mostPredicates, mostVariables}
 use Rattle.basis.specs.Refusals.{aboveLimit, accepted, endsInside, outOfRange, surplus, unknownRule, wrongMark}
 use Rattle.lists.proofs.Members.{allOf-in}
 use Rattle.lists.proofs.Tests.{T→eq, and-i, and-l, and-r}
 use Rattle.lists.specs.Lists.{allOf, sameList}
 use Rattle.runfile.specs.Claims.{EveryFile, Outcome, Refusal, Sayable, StepHeld}
-use Rattle.runfile.specs.File.{count, clause, File, Header, argument, atom, classChecks, clause, constant, end, file, header, instance, letters, literal, littleEndian, mostSteps, number, ruled, second, signed, step, within}
+use Rattle.runfile.specs.File.{count, File, Header, argument, atom, byte, classChecks, clause, clauseFields, constant, end, file, header, instance, letters, literal, littleEndian, mark, mostSteps, number, ruled, second, signed, step, version, within}
 use Rattle.runfile.specs.Readers.{Got, Reader, _judged_, _then_, bad, field, give, got, onward, times}
 use Rattle.calculus.proofs.Admitting.{clause-accepted-exactly}
 use Rattle.calculus.specs.Admission.{Admitted, fresh}
-use Rattle.calculus.specs.Admitting.{admitted}
 use Rattle.calculus.specs.Checks.{Check, _or_, between, firstRefusal}
 use Rattle.calculus.specs.Class.{InClass, Limited, arityOf, properAtom, properLiteral, withinLimits}
 use Rattle.calculus.specs.Clauses.{Clause}
@@ -200,12 +199,13 @@ allChecks arities C =
     withinLimits C or aboveLimit ∷
     (allOf (properAtom (C .variables)) (C .atoms) && allOf (properLiteral arities (C .variables)) (C .literals)) or outOfRange ∷ classChecks C
 
-pub clause-reads : (arities : List ℕ) → Reads (λ C. InClass arities C × Limited C) (clause arities)
-unfolding clause
-clause-reads arities =
-    reads-weaker
-    (reads-judged {P = λ C. T (withinLimits C) × T (allOf (properAtom (C .variables)) (C .atoms) && allOf (properLiteral arities (C .variables)) (C .literals))} classChecks (λ C. tt)
-    (reads-then _ (count-reads mostVariables) (λ v hv.
+-- What the fields of a clause give: its counts and its numbers are in range.
+abbrev pub FieldsFit : List ℕ → Clause → Type 0
+FieldsFit arities C = T (withinLimits C) × T (allOf (properAtom (C .variables)) (C .atoms) && allOf (properLiteral arities (C .variables)) (C .literals))
+
+clause-fields-read : (arities : List ℕ) → Reads (FieldsFit arities) (clauseFields arities)
+clause-fields-read arities =
+    reads-then _ (count-reads mostVariables) (λ v hv.
     reads-then _ (count-reads mostAtoms) (λ n hn.
     reads-then _ (count-reads mostLiterals) (λ m hm.
     reads-then _ (reads-times n (atom-reads v)) (λ az ha.
@@ -213,7 +213,34 @@ clause-reads arities =
       and-i (leb v mostVariables) _ (le→leb v mostVariables hv)
           (and-i (leb (length az) mostAtoms) _ (le→leb (length az) mostAtoms (omega (arith, ha .0))) (le→leb (length ls) mostLiterals (omega (arith, hl .0)))),
       and-i (allOf (properAtom v) az) _ (allOf-in (properAtom v) az (ha .1)) (allOf-in (properLiteral arities v) ls (hl .1)),
-    ))))))))
+    ))))))
+
+no-value : {A P : Type 0} {x : A} {j n p : ℕ} → bad n p ≡ got x j → P
+no-value {A} e = let z : _≡_ {A = ℕ} 1 0 = ap kind e in absurd (omega arith)
+  where
+    kind : Got A → ℕ
+    kind (got x j) = 0
+    kind (bad n p) = 1
+
+past-end : (s : List ℕ) (i : ℕ) → length s < i → byte s i ≡ bad endsInside i
+unfolding field
+past-end s i h = rw (lt-leb (i + 1) (length s) (omega arith))
+
+-- The same from any place: past the end nothing is read.
+pub clause-fields-fit : (arities s : List ℕ) (i : ℕ) {C : Clause} {j : ℕ} → clauseFields arities s i ≡ got C j → FieldsFit arities C
+clause-fields-fit arities s i {C} {j} e = by (leb i (length s)) refl
+  where
+    on : (g : Got Clause) → g ≡ got C j → Gives (FieldsFit arities) s g → FieldsFit arities C
+    on g e h = rw e at h .0
+
+    by : (b : Bool) → leb i (length s) ≡ b → FieldsFit arities C
+    by true h = on (clauseFields arities s i) e (clause-fields-read arities .gives s i (leb-true i (length s) h))
+    by false h = no-value (rw (past-end s i (leb-false i (length s) h)) at e)
+
+pub clause-reads : (arities : List ℕ) → Reads (λ C. InClass arities C × Limited C) (clause arities)
+unfolding clause
+clause-reads arities =
+    reads-weaker (reads-judged classChecks (λ C. tt) (clause-fields-read arities))
     (λ C h. clause-accepted-exactly arities C .0 (passes-all (allChecks arities C) (h .0 .0, (h .0 .1, h .1))))
 
 -- ---- steps
