@@ -11,7 +11,7 @@ use lib.Seq.{length-take-le, take-suc-set}
 use Rattle.basis.specs.Refusals.{accepted}
 use Rattle.lists.proofs.Arrays.{exactly-length, exactly-none, set-exactly}
 use Rattle.lists.specs.Arrays.{exactly}
-use Rattle.fields.specs.Views.{Told, reached, given, Filled, after, refusedFrom, viewed}
+use Rattle.fields.specs.Views.{Filled, Told, after, given, reached, refusedFrom, viewed}
 use Rattle.fields.specs.declared.Cursor.{Cursor}
 use Rattle.calculus.specs.Checks.{Check, firstRefusal}
 use Rattle.runfile.specs.Readers.{Got, Reader, _judged_, _then_, bad, give, got, times}
@@ -106,6 +106,19 @@ module _ {A B : Type 0} where
 
   pub and-give : (c₀ c₁ : Cursor) (x : A) (s : List ℕ) (f : Reader A) (y : A → B) → viewed c₁ x ≡ after c₀ (f s) → viewed c₁ (y x) ≡ after c₀ ((f then λ z. give (y z)) s)
   and-give c₀ c₁ x s f y e = and-then c₀ c₁ c₁ x (y x) s f (λ z. give (y z)) e (nothing c₁ (y x) s)
+
+-- Reading f from the first cursor leads to the second with x.
+pub record Leads {A : Type 0} (c₀ c₁ : Cursor) (x : A) (s : List ℕ) (f : Reader A) : Type 0 where
+  pub so : viewed c₁ x ≡ after c₀ (f s)
+
+pub leads : {A : Type 0} {s : List ℕ} (c₀ c₁ : Cursor) (x : A) (f : Reader A) → viewed c₁ x ≡ after c₀ (f s) → Leads c₀ c₁ x s f
+leads c₀ c₁ x f e = record { so = e }
+
+pub leads-then : {A B : Type 0} {c₀ c₁ c₂ : Cursor} {x : A} {y : B} {s : List ℕ} {f : Reader A} (g : A → Reader B) → Leads c₀ c₁ x s f → Leads c₁ c₂ y s (g x) → Leads c₀ c₂ y s (f then g)
+leads-then {A} {B} {c₀} {c₁} {c₂} {x} {y} {s} {f} g e h = record { so = and-then c₀ c₁ c₂ x y s f g (e .so) (h .so) }
+
+pub leads-give : {A B : Type 0} {c₀ c₁ : Cursor} {x : A} {s : List ℕ} {f : Reader A} (y : A → B) → Leads c₀ c₁ x s f → Leads c₀ c₁ (y x) s (f then λ z. give (y z))
+leads-give {A} {B} {c₀} {c₁} {x} {s} {f} y e = record { so = and-give c₀ c₁ x s f y (e .so) }
 
 -- ---- filling an array
 

@@ -141,7 +141,7 @@ back-atom v a h =
     (back-last (λ c. record { p = a .p; q = a .q; c = c }) (back-constant (a .c) (and-r (leb 1 (a .p + a .q)) (inRange (a .c)) h″))))
 
 -- What is written for the kth of n arguments
-abbrev slot : ℕ → ℕ → ℕ → List ℕ
+abbrev pub slot : ℕ → ℕ → ℕ → List ℕ
 slot n k x = cond (leb k n) (x ∷ []) []
 
 back-argument : (v n k x : ℕ) → T (argumentFits v n k x) → Back (argument v n k) (slot n k x) x
@@ -152,7 +152,7 @@ back-argument v n k x = by (leb k n)
     by false h = rw (sym (eqb→eq zero x h)) (back-none zero)
 
 -- The arguments of a proper literal, one by one, and what is written for them
-slots : (v n x y z : ℕ) → T (allOf (between 1 v) (take n (x ∷ y ∷ z ∷ []))) → T (allOf (eqb zero) (drop n (x ∷ y ∷ z ∷ [])))
+pub slots : (v n x y z : ℕ) → T (allOf (between 1 v) (take n (x ∷ y ∷ z ∷ []))) → T (allOf (eqb zero) (drop n (x ∷ y ∷ z ∷ [])))
     → T (argumentFits v n 1 x) × T (argumentFits v n 2 y) × T (argumentFits v n 3 z) × (slot n 1 x ++ (slot n 2 y ++ slot n 3 z) ≡ take n (x ∷ y ∷ z ∷ []))
 slots v zero x y z a b =
     let b′ = and-r (eqb zero x) (eqb zero y && (eqb zero z && true)) b in
