@@ -21,6 +21,10 @@ pub const MOST_TESTED: usize = 184;
 
 pub const MOST_C: i32 = 1000000;
 
+pub const ENDS_INSIDE: u8 = 1;
+
+pub const WRONG_MARK: u8 = 2;
+
 pub const ABOVE_LIMIT: u8 = 3;
 
 pub const OUT_OF_RANGE: u8 = 4;
@@ -30,6 +34,8 @@ pub const OCCURS_NOWHERE: u8 = 5;
 pub const LACKS_BOUND: u8 = 6;
 
 pub const UNKNOWN_RULE: u8 = 7;
+
+pub const SURPLUS: u8 = 8;
 
 pub const WRONG_MOMENT: u8 = 9;
 

@@ -10,3 +10,4 @@ pub mod Testing
 pub mod Propagating
 pub mod Conflicting
 pub mod Backtracking
+pub mod Steps

@@ -805,4 +805,29 @@ impl Run {
             place: 0,
         }
     }
+
+    // One proposed step, handed the clause that it looks at: 7 for an unknown rule, and else what its rule answers, which is 3 for an
+    // instance too long and 4 for a Decide sign above 1 before anything else.
+    pub fn step(self, clause: Clause, x: Step) -> Stepped
+        requires { ⌜ Handed self clause (stepOf x) ⌝ }
+        ensures { λ a. ⌜ Answered self clause (stepOf x) a ⌝ }
+    {
+        let rule = x.rule;
+        let instance = x.instance;
+        match rule {
+            1 => self.propagate(x.clause, clause, x.literal, instance, x.count),
+            2 => self.decide(x.clause, clause, x.literal, x.sign, instance, x.count),
+            3 => self.conflict(x.clause, clause, instance, x.count),
+            4 => self.resolve(clause, x.literal),
+            5 => self.factorize(x.literal, x.other),
+            6 => self.skip(),
+            7 => self.backtrack(x.literal),
+            8 => self.grow(x.amount),
+            _ => Stepped {
+                run: self,
+                number: UNKNOWN_RULE,
+                place: 0,
+            },
+        }
+    }
 }

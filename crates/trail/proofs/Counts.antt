@@ -1,15 +1,11 @@
 -- Counts held to the room that there is: what the elements counted are.
 use mathlib.Core.Path.{_∙_, _≡_, ap, refl, sym}
 use mathlib.Core.List.{List}
-use mathlib.Core.Bool.{Bool, false, true}
-use Prim.Native.Nat.{_+_, _<_, _≤_, ℕ}
+use Prim.Native.Nat.{_<_, _≤_, ℕ}
 use native.Mathlib.Omega.{arith}
 use lib.ListN.{List·getD-eq-default, getD, length, take}
-use lib.Seq.{getD-take, length-take-le, take-all, take-take}
-use Rattle.basis.specs.declared.Literal.{Literal}
-use Rattle.lists.specs.Lists.{allOf}
-use Rattle.trail.specs.Answers.{Counts, firstNumber}
-use Rattle.trail.proofs.Walks.{all-pass, first-fails}
+use lib.Seq.{getD-take, length-take-le, take-all}
+use Rattle.trail.specs.Answers.{Counts}
 
 module _ {A : Type 0} (l : List A) (most n : ℕ) (long : length l ≡ most) where
   pub counted-all : n ≤ most → Counts l most n n
@@ -27,13 +23,3 @@ module _ {A : Type 0} {l : List A} {most n r : ℕ} (C : Counts l most n r) wher
 
   pub counted-past : (j : ℕ) (d : A) → r ≤ j → getD (take n l) j d ≡ d
   counted-past j d h = List·getD-eq-default (take n l) d (omega (arith, counted-length))
-
--- The first literal that fails, of those counted
-module _ (f : Literal → Bool) (j : ℕ) {l : List Literal} {most n r : ℕ} (C : Counts l most n r) (passed : allOf f (take j l) ≡ true) where
-  pub number-first : (d : Literal) → j < r → f (getD l j d) ≡ false → firstNumber f (take n l) ≡ j + 1
-  number-first d h e =
-      ap (firstNumber f) (sym (C .same))
-      ∙ first-fails f (take r l) j d (ap (allOf f) (take-take j r l (omega arith)) ∙ passed) (omega (arith, length-take-le r l (omega (arith, C .few, C .long)))) (ap f (getD-take r l j d h) ∙ e)
-
-  pub number-none : j ≡ r → firstNumber f (take n l) ≡ 0
-  number-none e = all-pass f (take n l) (ap (allOf f) (sym (C .same) ∙ ap (λ k. take k l) (sym e)) ∙ passed)

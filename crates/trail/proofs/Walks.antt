@@ -1,28 +1,25 @@
 -- What a walk over a trail or over literals knows at its next turn and at its end.
 use mathlib.Core.Path.{_∙_, _≡_, ap, ap₂, refl, subst}
 use mathlib.Core.List.{List, [], _∷_}
-use mathlib.Core.Bool.{Bool, _&&_, _||_, cond, false, true}
+use mathlib.Core.Bool.{Bool, _||_, cond, false, true}
 use Prim.Native.Nat.{_+_, _<_, _≤_, max, suc, zero, ℕ}
 use native.Mathlib.Decide.{decLt}
 use native.Mathlib.Nat.{max-eq-left, max-eq-right, max-le}
 use native.Mathlib.Numerals.{add-one}
 use native.Mathlib.Omega.{arith}
 use lib.Dec.{leb}
-use lib.ListN.{getD, length, take}
-use lib.Seq.{take-length}
+use lib.ListN.{getD}
 use Rattle.basis.specs.declared.Literal.{Literal}
-use Rattle.lists.proofs.Walks.{allOf-fails}
-use Rattle.lists.specs.Lists.{allOf, anyOf}
-use Rattle.trail.specs.Answers.{firstNumber, isAbout, passes}
+use Rattle.lists.specs.Lists.{anyOf}
+use Rattle.trail.specs.Answers.{isAbout}
 use Rattle.trail.specs.Entries.{entryOf, pastEnd, trailOf}
 use Rattle.trail.specs.declared.Entry.{Entry}
 use Rattle.calculus.proofs.Levels.{decisions-more, level-le}
-use Rattle.calculus.specs.Clauses.{complement, ground, sameLiteral}
-use Rattle.calculus.specs.Rules.{firstFailing}
+use Rattle.calculus.specs.Clauses.{complement}
 use Rattle.calculus.specs.Trails as calculus
 use Rattle.calculus.specs.Trails.{Trail, cut, decisions, isDecision, isLiteral, largestLevel, levelOf, onTrail}
 
-or-true : (b : Bool) → (b || true) ≡ true
+pub or-true : (b : Bool) → (b || true) ≡ true
 or-true true = refl
 or-true false = refl
 
@@ -48,64 +45,6 @@ either-on l (e ∷ t) = go (isLiteral l e) (isLiteral (complement l) e) (onTrail
     go false true true d = refl
     go false true false d = refl
     go false false c d = refl
-
--- ---- refusal 12
-
-module _ (f : Literal → Bool) where
-  pub all-pass : (ls : List Literal) → allOf f ls ≡ true → firstNumber f ls ≡ 0
-  all-pass ls e = rw e
-
-  failing : (ls : List Literal) (j : ℕ) (d : Literal) → allOf f (take j ls) ≡ true → j < length ls → f (getD ls j d) ≡ false → firstFailing f ls ≡ suc j
-  failing [] j d a h e = absurd (omega arith)
-  failing (l ∷ ls) zero d a h e = rw e
-  failing (l ∷ ls) (suc j) d a h e = go (λ r. failing ls j d r (omega arith) e) (f l) a
-    where
-      go : (allOf f (take j ls) ≡ true → firstFailing f ls ≡ suc j) → (b : Bool) → (b && allOf f (take j ls)) ≡ true → cond b (suc (firstFailing f ls)) 1 ≡ suc (suc j)
-      go ih true r = ap suc (ih r)
-      go ih false r = absurd (let z : _≡_ {A = ℕ} 0 1 = cc in omega arith)
-
-  pub first-fails : (ls : List Literal) (j : ℕ) (d : Literal) → allOf f (take j ls) ≡ true → j < length ls → f (getD ls j d) ≡ false → firstNumber f ls ≡ j + 1
-  first-fails ls j d a h e = let short = allOf-fails f ls j (length ls) d h h e in rw (rw take-length at short) (rw add-one (failing ls j d a h e))
-
-  -- What the number says: 0 that all pass, another that not all do, and which.
-  pub none-fails : (ls : List Literal) → firstNumber f ls ≡ 0 → allOf f ls ≡ true
-  none-fails ls e = go (allOf f ls) refl
-    where
-      positive : (ls : List Literal) → allOf f ls ≡ false → 1 ≤ firstFailing f ls
-      positive [] q = absurd (let z : _≡_ {A = ℕ} 0 1 = cc in omega arith)
-      positive (l ∷ ls) q = at (f l)
-        where
-          at : (b : Bool) → 1 ≤ cond b (suc (firstFailing f ls)) 1
-          at true = omega arith
-          at false = omega arith
-
-      go : (b : Bool) → allOf f ls ≡ b → b ≡ true
-      go true q = refl
-      go false q = absurd (let z : firstFailing f ls ≡ 0 = rw q at e in omega (arith, positive ls q))
-
-  pub one-fails : (ls : List Literal) → ¬ (firstNumber f ls ≡ 0) → allOf f ls ≡ false
-  one-fails ls n = go (allOf f ls) refl
-    where
-      go : (b : Bool) → allOf f ls ≡ b → b ≡ false
-      go true e = absurd (n (all-pass ls e))
-      go false e = refl
-
-  pub its-number : (ls : List Literal) → ¬ (firstNumber f ls ≡ 0) → firstFailing f ls ≡ firstNumber f ls
-  its-number ls n = rw (one-fails ls n)
-
--- Of a literal m with the instance g: it is `own`, its complement is on the trail, or neither.
-module _ (others : Bool) (own : Literal) (t : Trail) (τ : List ℕ) (m : Literal) {g : Literal} {b : Bool} (e : g ≡ ground τ m) (q : b ≡ (others && sameLiteral g own)) where
-  pub passes-own : b ≡ true → passes others own t τ m ≡ true
-  passes-own h = let z : (others && sameLiteral (ground τ m) own) ≡ true = cc in rw z
-
-  pub passes-false : {d : Literal} → d ≡ complement g → onTrail d t ≡ true → passes others own t τ m ≡ true
-  passes-false p h = let z : onTrail (complement (ground τ m)) t ≡ true = cc in ap (λ x. (others && sameLiteral (ground τ m) own) || x) z ∙ or-true (others && sameLiteral (ground τ m) own)
-
-  pub passes-not : {d : Literal} → d ≡ complement g → b ≡ false → onTrail d t ≡ false → passes others own t τ m ≡ false
-  passes-not p h k =
-      let y : (others && sameLiteral (ground τ m) own) ≡ false = cc in
-      let z : onTrail (complement (ground τ m)) t ≡ false = cc in
-      ap₂ (λ x x′. x || x′) y z
 
 -- ---- levels
 

@@ -346,9 +346,10 @@ pub fn level_of(trail: [Entry; MOST_ENTRIES], length: u8, l: Literal) -> u8
     let mut k = 0;
     while k < n {
         let e = trail[k];
-        decisions = decisions_with(e, decisions);
+        let here = decisions_with(e, decisions);
         let about = is_about(e, l);
-        level = either(about, decisions, level);
+        level = either(about, here, level);
+        decisions = here;
         k += 1;
     }
     level
@@ -419,9 +420,10 @@ pub fn largest_level(trail: [Entry; MOST_ENTRIES], length: u8, d: Instances) -> 
     let mut k = 0;
     while k < n {
         let e = trail[k];
-        decisions = decisions_with(e, decisions);
-        let about = is_about_any(e, d);
-        level = either(about, decisions, level);
+        let here = decisions_with(e, decisions);
+        let any = is_about_any(e, d);
+        level = either(any, here, level);
+        decisions = here;
         k += 1;
     }
     level
@@ -463,9 +465,10 @@ fn cut_length(trail: [Entry; MOST_ENTRIES], length: u8, level: u8) -> u8
     while k < length {
         let e = trail[k as usize];
         k += 1;
-        decisions = decisions_with(e, decisions);
-        let low = decisions <= level;
+        let here = decisions_with(e, decisions);
+        let low = here <= level;
         kept = either(low, k, kept);
+        decisions = here;
     }
     kept
 }
@@ -662,13 +665,13 @@ pub fn append_propagated(
         let b = clause.atoms[j];
         let a = ground_atom(b, instance, count);
         j += 1;
-        let mut k = 0;
-        while k < m {
-            let e = out[k];
+        let mut i = 0;
+        while i < m {
+            let e = out[i];
             if is_atom(e, a) {
                 continue 'atoms;
             }
-            k += 1;
+            i += 1;
         }
         if MOST_ENTRIES <= m {
             return no_room();

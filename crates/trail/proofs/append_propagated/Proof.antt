@@ -18,10 +18,10 @@ use Rattle.trail.proofs.append_propagated.Statement.{statement}
 use Rattle.trail.proofs.append_propagated.Tie as tie
 
 abbrev Inv-loop : tie.InvT-loop
-Inv-loop len number l instance count clause m n out j a k₀ k = (k ≤ m) × (atomOnTrail a (trailOf out k) ≡ false)
+Inv-loop len number l instance count clause m n out j a i₀ i = (i ≤ m) × (atomOnTrail a (trailOf out i) ≡ false)
 
 abbrev μ-loop : tie.MeasureT-loop
-μ-loop len number l instance count clause m n out j a k₀ k = m - k
+μ-loop len number l instance count clause m n out j a i₀ i = m - i
 
 abbrev Inv-atoms : tie.InvT-atoms
 Inv-atoms len number l instance count clause m₀ n out₀ j₀ m out j = (j ≤ n) × (m ≤ mostEntries) × Stored out m (appendAtoms (groundAtoms (take count instance) (take j (clause .atoms))) (trailOf out₀ m₀))
@@ -33,7 +33,9 @@ no-room-requires : tie.Need-no-room-requires Inv-loop μ-loop Inv-atoms μ-atoms
 no-room-requires c κs = search needs
 
 returns : tie.Need-returns Inv-loop μ-loop Inv-atoms μ-atoms
-returns c = grew-none _ (c .no-room .ensures .0) (c .no-room .ensures .1) (omega (arith, trail-length (c .before .before .args .trail) (c .before .before .args .length), propagated-longer (clauseOf (c .before .before .args .t3)) (c .before .before .args .l - 1) (take (c .before .before .args .count) (c .before .before .args .instance)) (propagated (c .before .before .args .number) (c .before .before .args .l) (take (c .before .before .args .count) (c .before .before .args .instance))) (trailOf (c .before .before .args .trail) (c .before .before .args .length))))
+returns c =
+    let args = c .before .before .args in
+    grew-none _ (c .no-room .ensures .0) (c .no-room .ensures .1) (omega (arith, trail-length (args .trail) (args .length), propagated-longer (clauseOf (args .t3)) (args .l - 1) (take (args .count) (args .instance)) (propagated (args .number) (args .l) (take (args .count) (args .instance))) (trailOf (args .trail) (args .length))))
 
 atoms-of-requires : tie.Need-atoms-of-requires Inv-loop μ-loop Inv-atoms μ-atoms
 atoms-of-requires c κs = search needs
@@ -84,22 +86,35 @@ atoms-less : tie.Need-atoms-less Inv-loop μ-loop Inv-atoms μ-atoms
 atoms-less c = search needs
 
 atoms-again : tie.Need-atoms-again Inv-loop μ-loop Inv-atoms μ-atoms
-atoms-again c = (omega arith, search needs, stored-found (renameAtom (under (take (c .before .before .before .before .before .before .before .before .before .before .before .before .before .args .count) (c .before .before .before .before .before .before .before .before .before .before .before .before .before .args .instance)))) (c .before .before .before .before .before .before .before .before .before .before .before .before .before .args .t3 .atoms) _ noAtom (c .before .before .before .before .before .before .before .before .atoms .inv .2) (c .before .before .before .before .before .ground-atom .ensures) (omega (arith, c .before .before .before .before .before .before .before .before .before .before .before .atoms-of .ensures .few, c .before .before .before .before .before .before .before .before .before .before .before .atoms-of .ensures .long)) (any-found (isAtom (c .before .before .before .before .before .ground-atom .result)) (c .before .before .before .before .before .before .before .before .atoms .out) (c .before .before .before .before .loop .k) (c .before .before .before .before .before .before .before .before .atoms .m) (omega arith) (sym (c .before .is-atom .ensures) ∙ c .if2 .taken)))
+atoms-again c =
+    let args = c .before .before .before .before .before .before .before .before .before .before .before .before .before .args in
+    let atoms-of = c .before .before .before .before .before .before .before .before .before .before .before .atoms-of in
+    let atoms = c .before .before .before .before .before .before .before .before .atoms in
+    let ground-atom = c .before .before .before .before .before .ground-atom in
+    (omega arith, search needs, stored-found (renameAtom (under (take (args .count) (args .instance)))) (args .t3 .atoms) _ noAtom (atoms .inv .2) (ground-atom .ensures) (omega (arith, atoms-of .ensures .few, atoms-of .ensures .long)) (any-found (isAtom (ground-atom .result)) (atoms .out) (c .before .before .before .before .loop .i) (atoms .m) (omega arith) (sym (c .before .is-atom .ensures) ∙ c .if2 .taken)))
 
-add-k : tie.Need-add-k Inv-loop μ-loop Inv-atoms μ-atoms
-add-k c = search needs
+add-i : tie.Need-add-i Inv-loop μ-loop Inv-atoms μ-atoms
+add-i c = search needs
 
 loop-less : tie.Need-loop-less Inv-loop μ-loop Inv-atoms μ-atoms
 loop-less c = search needs
 
 loop-again : tie.Need-loop-again Inv-loop μ-loop Inv-atoms μ-atoms
-loop-again c = (omega arith, any-more (isAtom (c .before .before .before .before .before .ground-atom .result)) (c .before .before .before .before .before .before .before .before .atoms .out) (c .before .before .before .before .loop .k) (c .before .before .before .before .loop .inv .1) (sym (c .before .is-atom .ensures) ∙ c .if2 .left))
+loop-again c =
+    let loop = c .before .before .before .before .loop in
+    (omega arith, any-more (isAtom (c .before .before .before .before .before .ground-atom .result)) (c .before .before .before .before .before .before .before .before .atoms .out) (loop .i) (loop .inv .1) (sym (c .before .is-atom .ensures) ∙ c .if2 .left))
 
 no-room-requires-2 : tie.Need-no-room-requires-2 Inv-loop μ-loop Inv-atoms μ-atoms
 no-room-requires-2 c κs = search needs
 
 returns-2 : tie.Need-returns-2 Inv-loop μ-loop Inv-atoms μ-atoms
-returns-2 c = grew-none _ (c .no-room2 .ensures .0) (c .no-room2 .ensures .1) (subst (λ t. mostEntries < length t) (propagated-done (clauseOf (c .before .before .before .before .before .before .before .before .before .before .before .before .args .t3)) (c .before .before .before .before .before .before .before .before .before .before .before .before .args .l - 1) (take (c .before .before .before .before .before .before .before .before .before .before .before .before .args .count) (c .before .before .before .before .before .before .before .before .before .before .before .before .args .instance)) (propagated (c .before .before .before .before .before .before .before .before .before .before .before .before .args .number) (c .before .before .before .before .before .before .before .before .before .before .before .before .args .l) (take (c .before .before .before .before .before .before .before .before .before .before .before .before .args .count) (c .before .before .before .before .before .before .before .before .before .before .before .before .args .instance))) (trailOf (c .before .before .before .before .before .before .before .before .before .before .before .before .args .trail) (c .before .before .before .before .before .before .before .before .before .before .before .before .args .length)) _ (take (c .before .before .before .before .before .before .before .before .before .before .atoms-of .result) (c .before .before .before .before .before .before .before .before .before .before .before .before .args .t3 .atoms)) (c .before .before .before .before .before .before .before .before .before .literal-instance .result) (c .before .before .before .before .before .before .before .before .before .before .atoms-of .ensures .same) (c .before .before .before .before .before .before .before .before .before .literal-instance .ensures) (stored-pushed (c .before .before .before .before .before .before .before .before .before .before .before .before .pre) (omega arith) (c .before .before .before .before .before .before .before .before .propagated-entry .ensures) .says)) (no-room-for (renameAtom (under (take (c .before .before .before .before .before .before .before .before .before .before .before .before .args .count) (c .before .before .before .before .before .before .before .before .before .before .before .before .args .instance)))) (c .before .before .before .before .before .before .before .before .before .before .before .before .args .t3 .atoms) _ noAtom (c .before .before .before .before .before .before .before .atoms .inv .2) (c .before .before .before .before .ground-atom .ensures) (omega (arith, c .before .before .before .before .before .before .before .before .before .before .atoms-of .ensures .few, c .before .before .before .before .before .before .before .before .before .before .atoms-of .ensures .long)) (c .before .before .before .before .before .before .before .before .before .before .atoms-of .result) (omega arith) (omega arith) (let e : c .before .before .before .loop .k ≡ c .before .before .before .before .before .before .before .atoms .m = omega arith in rw e at (c .before .before .before .loop .inv .1))))
+returns-2 c =
+    let args = c .before .before .before .before .before .before .before .before .before .before .before .before .args in
+    let atoms-of = c .before .before .before .before .before .before .before .before .before .before .atoms-of in
+    let literal-instance = c .before .before .before .before .before .before .before .before .before .literal-instance in
+    let atoms = c .before .before .before .before .before .before .before .atoms in
+    let loop = c .before .before .before .loop in
+    grew-none _ (c .no-room2 .ensures .0) (c .no-room2 .ensures .1) (subst (λ t. mostEntries < length t) (propagated-done (clauseOf (args .t3)) (args .l - 1) (take (args .count) (args .instance)) (propagated (args .number) (args .l) (take (args .count) (args .instance))) (trailOf (args .trail) (args .length)) _ (take (atoms-of .result) (args .t3 .atoms)) (literal-instance .result) (atoms-of .ensures .same) (literal-instance .ensures) (stored-pushed (c .before .before .before .before .before .before .before .before .before .before .before .before .pre) (omega arith) (c .before .before .before .before .before .before .before .before .propagated-entry .ensures) .says)) (no-room-for (renameAtom (under (take (args .count) (args .instance)))) (args .t3 .atoms) _ noAtom (atoms .inv .2) (c .before .before .before .before .ground-atom .ensures) (omega (arith, atoms-of .ensures .few, atoms-of .ensures .long)) (atoms-of .result) (omega arith) (omega arith) (let e : loop .i ≡ atoms .m = omega arith in rw e at (loop .inv .1))))
 
 background-entry-requires : tie.Need-background-entry-requires Inv-loop μ-loop Inv-atoms μ-atoms
 background-entry-requires c κs = search needs
@@ -117,13 +132,24 @@ atoms-less-2 : tie.Need-atoms-less-2 Inv-loop μ-loop Inv-atoms μ-atoms
 atoms-less-2 c = search needs
 
 atoms-again-2 : tie.Need-atoms-again-2 Inv-loop μ-loop Inv-atoms μ-atoms
-atoms-again-2 c = (omega arith, omega arith, stored-new (renameAtom (under (take (c .before .before .before .before .before .before .before .before .before .before .before .before .args .count) (c .before .before .before .before .before .before .before .before .before .before .before .before .args .instance)))) (c .before .before .before .before .before .before .before .before .before .before .before .before .args .t3 .atoms) _ noAtom (c .before .before .before .before .before .before .before .atoms .inv .2) (c .before .before .before .before .ground-atom .ensures) (omega (arith, c .before .before .before .before .before .before .before .before .before .before .atoms-of .ensures .few, c .before .before .before .before .before .before .before .before .before .before .atoms-of .ensures .long)) (omega arith) (c .background-entry .ensures) (let e : c .before .before .before .loop .k ≡ c .before .before .before .before .before .before .before .atoms .m = omega arith in rw e at (c .before .before .before .loop .inv .1)))
+atoms-again-2 c =
+    let args = c .before .before .before .before .before .before .before .before .before .before .before .before .args in
+    let atoms-of = c .before .before .before .before .before .before .before .before .before .before .atoms-of in
+    let atoms = c .before .before .before .before .before .before .before .atoms in
+    let loop = c .before .before .before .loop in
+    (omega arith, omega arith, stored-new (renameAtom (under (take (args .count) (args .instance)))) (args .t3 .atoms) _ noAtom (atoms .inv .2) (c .before .before .before .before .ground-atom .ensures) (omega (arith, atoms-of .ensures .few, atoms-of .ensures .long)) (omega arith) (c .background-entry .ensures) (let e : loop .i ≡ atoms .m = omega arith in rw e at (loop .inv .1)))
 
 cast-t38 : tie.Need-cast-t38 Inv-loop μ-loop Inv-atoms μ-atoms
 cast-t38 c = search needs
 
 returns-3 : tie.Need-returns-3 Inv-loop μ-loop Inv-atoms μ-atoms
-returns-3 c = let e : c .before .atoms .j ≡ c .before .before .before .before .atoms-of .result = omega arith in grew-all (subst (Stored (c .before .atoms .out) (c .before .atoms .m)) (propagated-done (clauseOf (c .before .before .before .before .before .before .args .t3)) (c .before .before .before .before .before .before .args .l - 1) (take (c .before .before .before .before .before .before .args .count) (c .before .before .before .before .before .before .args .instance)) (propagated (c .before .before .before .before .before .before .args .number) (c .before .before .before .before .before .before .args .l) (take (c .before .before .before .before .before .before .args .count) (c .before .before .before .before .before .before .args .instance))) (trailOf (c .before .before .before .before .before .before .args .trail) (c .before .before .before .before .before .before .args .length)) _ (take (c .before .before .before .before .atoms-of .result) (c .before .before .before .before .before .before .args .t3 .atoms)) (c .before .before .before .literal-instance .result) (c .before .before .before .before .atoms-of .ensures .same) (c .before .before .before .literal-instance .ensures) (stored-pushed (c .before .before .before .before .before .before .pre) (omega arith) (c .before .before .propagated-entry .ensures) .says)) (rw e at (c .before .atoms .inv .2)))
+returns-3 c =
+    let args = c .before .before .before .before .before .before .args in
+    let atoms-of = c .before .before .before .before .atoms-of in
+    let literal-instance = c .before .before .before .literal-instance in
+    let atoms = c .before .atoms in
+    let e : atoms .j ≡ atoms-of .result = omega arith in
+    grew-all (subst (Stored (atoms .out) (atoms .m)) (propagated-done (clauseOf (args .t3)) (args .l - 1) (take (args .count) (args .instance)) (propagated (args .number) (args .l) (take (args .count) (args .instance))) (trailOf (args .trail) (args .length)) _ (take (atoms-of .result) (args .t3 .atoms)) (literal-instance .result) (atoms-of .ensures .same) (literal-instance .ensures) (stored-pushed (c .before .before .before .before .before .before .pre) (omega arith) (c .before .before .propagated-entry .ensures) .says)) (rw e at (atoms .inv .2)))
 
 pub append-propagated-spec : {M : Type 1} → statement M
 append-propagated-spec =
@@ -152,7 +178,7 @@ append-propagated-spec =
     is-atom-requires
     atoms-less
     atoms-again
-    add-k
+    add-i
     loop-less
     loop-again
     no-room-requires-2

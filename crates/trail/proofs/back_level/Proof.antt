@@ -14,7 +14,9 @@ largest-level-requires : tie.Need-largest-level-requires
 largest-level-requires c κs = search needs
 
 returns : tie.Need-returns
-returns c = c .largest-level .ensures ∙ ap (largestLevel (trailOf (c .before .before .args .trail) (c .before .before .args .length))) (listed-says (c .before .other-instances .ensures))
+returns c =
+    let args = c .before .before .args in
+    c .largest-level .ensures ∙ ap (largestLevel (trailOf (args .trail) (args .length))) (listed-says (c .before .other-instances .ensures))
 
 pub back-level-spec : {M : Type 1} → statement M
 back-level-spec = tie.close (tie.spec other-instances-requires largest-level-requires returns)

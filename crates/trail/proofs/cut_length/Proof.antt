@@ -42,10 +42,19 @@ loop-less : tie.Need-loop-less Inv-loop μ-loop
 loop-less c = search needs
 
 loop-again : tie.Need-loop-again Inv-loop μ-loop
-loop-again c = let q : c .before .decisions-with .result ≡ decisions (trailOf (c .before .before .before .before .before .args .t1) (c .before .before .before .before .loop .k + 1)) = rw add-one (cc) in let t = cut-turn (c .before .before .before .before .before .args .t1) (c .before .before .before .before .before .args .level) (c .before .before .before .before .loop .k) (c .before .decisions-with .result) (c .before .before .before .before .loop .kept) (c .either .result) q (c .before .before .before .before .loop .inv .3) (c .before .before .before .before .loop .inv .4) (c .either .ensures) in (omega arith, search needs, q, t .0, t .1)
+loop-again c =
+    let args = c .before .before .before .before .before .args in
+    let loop = c .before .before .before .before .loop in
+    let decisions-with = c .before .decisions-with in
+    let q : decisions-with .result ≡ decisions (trailOf (args .t1) (loop .k + 1)) = rw add-one (cc) in
+    let t = cut-turn (args .t1) (args .level) (loop .k) (decisions-with .result) (loop .kept) (c .either .result) q (loop .inv .3) (loop .inv .4) (c .either .ensures) in
+    (omega arith, search needs, q, t .0, t .1)
 
 returns : tie.Need-returns Inv-loop μ-loop
-returns c = let e : c .before .loop .k ≡ c .before .before .args .length = omega arith in (omega arith, rw e at (c .before .loop .inv .4))
+returns c =
+    let loop = c .before .loop in
+    let e : loop .k ≡ c .before .before .args .length = omega arith in
+    (omega arith, rw e at (loop .inv .4))
 
 pub cut-length-spec : {M : Type 1} → statement M
 cut-length-spec =

@@ -33,10 +33,15 @@ loop-less : tie.Need-loop-less Inv-loop μ-loop
 loop-less c = search needs
 
 loop-again : tie.Need-loop-again Inv-loop μ-loop
-loop-again c = (omega arith, stored-back (c .before .loop .out) (c .before .before .before .args .trail) (c .before .loop .k) (c .before .loop .k - 1) _ (omega arith) (c .before .before .no-entry .ensures) (c .before .loop .inv .1))
+loop-again c =
+    let loop = c .before .loop in
+    (omega arith, stored-back (loop .out) (c .before .before .before .args .trail) (loop .k) (loop .k - 1) _ (omega arith) (c .before .before .no-entry .ensures) (loop .inv .1))
 
 returns : tie.Need-returns Inv-loop μ-loop
-returns c = let e : c .before .loop .k ≡ c .before .before .before .args .kept = omega arith in rw e at (c .before .loop .inv .1)
+returns c =
+    let loop = c .before .loop in
+    let e : loop .k ≡ c .before .before .before .args .kept = omega arith in
+    rw e at (loop .inv .1)
 
 pub cut-to-spec : {M : Type 1} → statement M
 cut-to-spec =

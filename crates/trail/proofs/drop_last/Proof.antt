@@ -22,7 +22,9 @@ array-set-from-out : tie.Need-array-set-from-out
 array-set-from-out c = search needs
 
 returns-2 : tie.Need-returns-2
-returns-2 c = dropped (c .before .before .args .trail) (c .before .before .args .length) (c .before .before .args .length - 1) _ (omega arith) (c .no-entry .ensures) (c .before .before .pre)
+returns-2 c =
+    let args = c .before .before .args in
+    dropped (args .trail) (args .length) (args .length - 1) _ (omega arith) (c .no-entry .ensures) (c .before .before .pre)
 
 pub drop-last-spec : {M : Type 1} → statement M
 drop-last-spec =

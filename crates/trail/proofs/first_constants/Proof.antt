@@ -32,10 +32,16 @@ loop-less : tie.Need-loop-less Inv-loop μ-loop
 loop-less c = search needs
 
 loop-again : tie.Need-loop-again Inv-loop μ-loop
-loop-again c = (omega arith, omega arith, ap (λ r. set r (c .before .loop .k - 1) 0) (c .before .loop .inv .2) ∙ blanked (c .before .before .before .args .instance) (c .before .loop .k) (c .before .loop .k - 1) (c .before .before .constants-of .ensures .long) (omega arith) (omega arith))
+loop-again c =
+    let loop = c .before .loop in
+    (omega arith, omega arith, ap (λ r. set r (loop .k - 1) 0) (loop .inv .2) ∙ blanked (c .before .before .before .args .instance) (loop .k) (loop .k - 1) (c .before .before .constants-of .ensures .long) (omega arith) (omega arith))
 
 returns : tie.Need-returns Inv-loop μ-loop
-returns c = let e : c .before .loop .k ≡ c .before .before .constants-of .result = omega arith in c .before .loop .inv .2 ∙ ap (exactly mostVariables 0) (ap (λ k. take k (c .before .before .before .args .instance)) e ∙ c .before .before .constants-of .ensures .same)
+returns c =
+    let constants-of = c .before .before .constants-of in
+    let loop = c .before .loop in
+    let e : loop .k ≡ constants-of .result = omega arith in
+    loop .inv .2 ∙ ap (exactly mostVariables 0) (ap (λ k. take k (c .before .before .before .args .instance)) e ∙ constants-of .ensures .same)
 
 pub first-constants-spec : {M : Type 1} → statement M
 first-constants-spec =

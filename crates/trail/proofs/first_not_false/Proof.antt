@@ -4,16 +4,14 @@ use mathlib.Core.Logic.{⊎-elim}
 use mathlib.Core.Bool.{true, false}
 use Prim.Native.Nat.{_+_, _≤_, _-_}
 use native.Mathlib.Omega.{arith}
-use lib.ListN.{getD, take}
+use lib.ListN.{take}
 use borrow.Author.Needs.{needs}
-use Rattle.lists.proofs.Walks.{allOf-and}
 use Rattle.lists.specs.Lists.{allOf}
-use Rattle.calculus.specs.Clauses.{noLiteral}
 use Rattle.calculus.specs.Trails.{onTrail, isLiteral}
 use Rattle.trail.specs.Answers.{passes}
 use Rattle.trail.specs.Entries.{trailOf}
-use Rattle.trail.proofs.Walks.{any-more, any-found, passes-own, passes-false, passes-not}
-use Rattle.trail.proofs.Counts.{number-first, number-none}
+use Rattle.trail.proofs.Walks.{any-more, any-found}
+use Rattle.trail.proofs.NotFalse.{own-passes, false-passes, first-not-false, none-left}
 use Rattle.trail.proofs.first_not_false.Statement.{statement}
 use Rattle.trail.proofs.first_not_false.Tie as tie
 
@@ -54,7 +52,10 @@ literals-less : tie.Need-literals-less Inv-entries μ-entries Inv-literals μ-li
 literals-less c = search needs
 
 literals-again : tie.Need-literals-again Inv-entries μ-entries Inv-literals μ-literals
-literals-again c = (omega arith, allOf-and (passes (c .before .before .before .before .before .before .before .args .others) (c .before .before .before .before .before .before .before .args .own) (trailOf (c .before .before .before .before .before .before .before .args .t1) (c .before .before .before .before .before .before .before .args .length)) (take (c .before .before .before .before .before .before .before .args .count) (c .before .before .before .before .before .before .before .args .instance))) (c .before .before .before .before .before .before .before .args .t3 .literals) (c .before .before .before .before .before .literals .j) noLiteral (omega (arith, c .before .before .before .before .before .before .literals-of .ensures .few, c .before .before .before .before .before .before .literals-of .ensures .long)) (c .before .before .before .before .before .literals .inv .1) (passes-own (c .before .before .before .before .before .before .before .args .others) (c .before .before .before .before .before .before .before .args .own) (trailOf (c .before .before .before .before .before .before .before .args .t1) (c .before .before .before .before .before .before .before .args .length)) (take (c .before .before .before .before .before .before .before .args .count) (c .before .before .before .before .before .before .before .args .instance)) (getD (c .before .before .before .before .before .before .before .args .t3 .literals) (c .before .before .before .before .before .literals .j) noLiteral) (c .before .before .ground .ensures) (c .before .is-own .ensures) (c .if1 .taken)))
+literals-again c =
+    let args = c .before .before .before .before .before .before .before .args in
+    let literals = c .before .before .before .before .before .literals in
+    (omega arith, own-passes (args .others) (args .own) (trailOf (args .t1) (args .length)) (take (args .count) (args .instance)) (args .t3 .literals) (literals .j) (c .before .before .before .before .before .before .literals-of .ensures) (literals .inv .1) (c .before .before .before .before .literals-test .taken) (c .before .before .ground .ensures) (c .before .is-own .ensures) (c .if1 .taken))
 
 complement-requires : tie.Need-complement-requires Inv-entries μ-entries Inv-literals μ-literals
 complement-requires c κs = search needs
@@ -78,7 +79,13 @@ literals-less-2 : tie.Need-literals-less-2 Inv-entries μ-entries Inv-literals �
 literals-less-2 c = search needs
 
 literals-again-2 : tie.Need-literals-again-2 Inv-entries μ-entries Inv-literals μ-literals
-literals-again-2 c = rw (c .before .before .before .before .entries .inv .0) (omega arith, allOf-and (passes (c .before .before .before .before .before .before .before .before .before .before .before .before .before .args .others) (c .before .before .before .before .before .before .before .before .before .before .before .before .before .args .own) (trailOf (c .before .before .before .before .before .before .before .before .before .before .before .before .before .args .t1) (c .before .before .before .before .before .before .before .before .before .before .before .before .before .args .length)) (take (c .before .before .before .before .before .before .before .before .before .before .before .before .before .args .count) (c .before .before .before .before .before .before .before .before .before .before .before .before .before .args .instance))) (c .before .before .before .before .before .before .before .before .before .before .before .before .before .args .t3 .literals) (c .before .before .before .before .before .before .before .before .before .before .before .literals .j) noLiteral (omega (arith, c .before .before .before .before .before .before .before .before .before .before .before .before .literals-of .ensures .few, c .before .before .before .before .before .before .before .before .before .before .before .before .literals-of .ensures .long)) (c .before .before .before .before .before .before .before .before .before .before .before .literals .inv .1) (passes-false (c .before .before .before .before .before .before .before .before .before .before .before .before .before .args .others) (c .before .before .before .before .before .before .before .before .before .before .before .before .before .args .own) (trailOf (c .before .before .before .before .before .before .before .before .before .before .before .before .before .args .t1) (c .before .before .before .before .before .before .before .before .before .before .before .before .before .args .length)) (take (c .before .before .before .before .before .before .before .before .before .before .before .before .before .args .count) (c .before .before .before .before .before .before .before .before .before .before .before .before .before .args .instance)) (getD (c .before .before .before .before .before .before .before .before .before .before .before .before .before .args .t3 .literals) (c .before .before .before .before .before .before .before .before .before .before .before .literals .j) noLiteral) (c .before .before .before .before .before .before .before .before .ground .ensures) (c .before .before .before .before .before .before .before .is-own .ensures) (c .before .before .before .before .before .complement .ensures) (any-found (isLiteral (c .before .before .before .before .before .complement .result)) (c .before .before .before .before .before .before .before .before .before .before .before .before .before .args .t1) (c .before .before .before .before .entries .k) (c .before .before .before .before .before .before .before .before .before .before .before .before .before .args .length) (omega arith) (sym (c .before .is-literal .ensures) ∙ c .if2 .taken))))
+literals-again-2 c =
+    let args = c .before .before .before .before .before .before .before .before .before .before .before .before .before .args in
+    let literals = c .before .before .before .before .before .before .before .before .before .before .before .literals in
+    let complement = c .before .before .before .before .before .complement in
+    let entries = c .before .before .before .before .entries in
+    let found = any-found (isLiteral (complement .result)) (args .t1) (entries .k) (args .length) (c .before .before .before .entries-test .taken) (sym (c .before .is-literal .ensures) ∙ c .if2 .taken) in
+    rw (entries .inv .0) (omega arith, false-passes (args .others) (args .own) (trailOf (args .t1) (args .length)) (take (args .count) (args .instance)) (args .t3 .literals) (literals .j) (c .before .before .before .before .before .before .before .before .before .before .before .before .literals-of .ensures) (literals .inv .1) (c .before .before .before .before .before .before .before .before .before .before .literals-test .taken) (c .before .before .before .before .before .before .before .before .ground .ensures) (c .before .before .before .before .before .before .before .is-own .ensures) (complement .ensures) found)
 
 add-k : tie.Need-add-k Inv-entries μ-entries Inv-literals μ-literals
 add-k c = search needs
@@ -87,7 +94,9 @@ entries-less : tie.Need-entries-less Inv-entries μ-entries Inv-literals μ-lite
 entries-less c = search needs
 
 entries-again : tie.Need-entries-again Inv-entries μ-entries Inv-literals μ-literals
-entries-again c = (c .before .before .before .before .entries .inv .0, omega arith, any-more (isLiteral (c .before .before .before .before .before .complement .result)) (c .before .before .before .before .before .before .before .before .before .before .before .before .before .args .t1) (c .before .before .before .before .entries .k) (c .before .before .before .before .entries .inv .2) (sym (c .before .is-literal .ensures) ∙ c .if2 .left))
+entries-again c =
+    let entries = c .before .before .before .before .entries in
+    (entries .inv .0, omega arith, any-more (isLiteral (c .before .before .before .before .before .complement .result)) (c .before .before .before .before .before .before .before .before .before .before .before .before .before .args .t1) (entries .k) (entries .inv .2) (sym (c .before .is-literal .ensures) ∙ c .if2 .left))
 
 add-result : tie.Need-add-result Inv-entries μ-entries Inv-literals μ-literals
 add-result c = search needs
@@ -96,10 +105,16 @@ cast-result : tie.Need-cast-result Inv-entries μ-entries Inv-literals μ-litera
 cast-result c = search needs
 
 returns : tie.Need-returns Inv-entries μ-entries Inv-literals μ-literals
-returns c = ⊎-elim (λ w. absurd (omega (arith, w .0 .left))) (λ w. let n : w .6 .k ≡ c .before .before .before .before .args .length = omega (arith, w .6 .inv .1, w .7 .left) in let off = rw n at (w .6 .inv .2) in ap (λ k. k + 1) (w .8 ∙ w .6 .inv .0) ∙ sym (number-first (passes (c .before .before .before .before .args .others) (c .before .before .before .before .args .own) (trailOf (c .before .before .before .before .args .t1) (c .before .before .before .before .args .length)) (take (c .before .before .before .before .args .count) (c .before .before .before .before .args .instance))) (c .before .before .literals .j) (c .before .before .before .literals-of .ensures) (c .before .before .literals .inv .1) noLiteral (w .0 .taken) (passes-not (c .before .before .before .before .args .others) (c .before .before .before .before .args .own) (trailOf (c .before .before .before .before .args .t1) (c .before .before .before .before .args .length)) (take (c .before .before .before .before .args .count) (c .before .before .before .before .args .instance)) (getD (c .before .before .before .before .args .t3 .literals) (c .before .before .literals .j) noLiteral) (w .2 .ensures) (w .3 .ensures) (w .5 .ensures) (w .4 .left) off))) (c .before .literals-test .came)
+returns c =
+    let args = c .before .before .before .before .args in
+    let literals = c .before .before .literals in
+    ⊎-elim (λ w. absurd (omega (arith, w .0 .left))) (λ w. let all : w .6 .k ≡ args .length = omega (arith, w .6 .inv .1, w .7 .left) in ap (λ k. k + 1) (w .8 ∙ w .6 .inv .0) ∙ sym (first-not-false (args .others) (args .own) (trailOf (args .t1) (args .length)) (take (args .count) (args .instance)) (args .t3 .literals) (literals .j) (c .before .before .before .literals-of .ensures) (literals .inv .1) (w .0 .taken) (w .2 .ensures) (w .3 .ensures) (w .5 .ensures) (w .4 .left) (rw all at (w .6 .inv .2)))) (c .before .literals-test .came)
 
 returns-2 : tie.Need-returns-2 Inv-entries μ-entries Inv-literals μ-literals
-returns-2 c = ⊎-elim (λ w. sym (number-none (passes (c .before .before .before .before .args .others) (c .before .before .before .before .args .own) (trailOf (c .before .before .before .before .args .t1) (c .before .before .before .before .args .length)) (take (c .before .before .before .before .args .count) (c .before .before .before .before .args .instance))) (c .before .before .literals .j) (c .before .before .before .literals-of .ensures) (c .before .before .literals .inv .1) (omega (arith, w .0 .left)))) (λ w. absurd (omega (arith, w .0 .taken, w .6 .inv .0, w .8))) (c .before .literals-test .came)
+returns-2 c =
+    let args = c .before .before .before .before .args in
+    let literals = c .before .before .literals in
+    ⊎-elim (λ w. sym (none-left (args .others) (args .own) (trailOf (args .t1) (args .length)) (take (args .count) (args .instance)) (args .t3 .literals) (literals .j) (c .before .before .before .literals-of .ensures) (literals .inv .1) (omega (arith, w .0 .left)))) (λ w. absurd (omega (arith, w .0 .taken, w .6 .inv .0, w .8))) (c .before .literals-test .came)
 
 pub first-not-false-spec : {M : Type 1} → statement M
 first-not-false-spec =

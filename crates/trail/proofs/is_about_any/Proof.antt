@@ -35,7 +35,10 @@ is-about-requires : tie.Need-is-about-requires Inv-loop μ-loop
 is-about-requires c κs = search needs
 
 returns : tie.Need-returns Inv-loop μ-loop
-returns c = sym (ap (anyOf (λ l. isAbout l (entryOf (c .before .before .before .before .before .before .args .e)))) (sym (c .before .before .before .before .before .instances-of .ensures .same)) ∙ anyOf-found (λ l. isAbout l (entryOf (c .before .before .before .before .before .before .args .e))) (c .before .before .before .before .before .before .args .t2 .at) (c .before .before .before .before .loop .j) (c .before .before .before .before .before .instances-of .result) noLiteral (omega arith) (omega (arith, c .before .before .before .before .before .instances-of .ensures .long, c .before .before .before .before .before .instances-of .ensures .few)) (sym (c .before .is-about .ensures) ∙ c .if1 .taken))
+returns c =
+    let args = c .before .before .before .before .before .before .args in
+    let instances-of = c .before .before .before .before .before .instances-of in
+    sym (ap (anyOf (λ l. isAbout l (entryOf (args .e)))) (sym (instances-of .ensures .same)) ∙ anyOf-found (λ l. isAbout l (entryOf (args .e))) (args .t2 .at) (c .before .before .before .before .loop .j) (instances-of .result) noLiteral (omega arith) (omega (arith, instances-of .ensures .long, instances-of .ensures .few)) (sym (c .before .is-about .ensures) ∙ c .if1 .taken))
 
 add-j : tie.Need-add-j Inv-loop μ-loop
 add-j c = search needs
@@ -44,10 +47,18 @@ loop-less : tie.Need-loop-less Inv-loop μ-loop
 loop-less c = search needs
 
 loop-again : tie.Need-loop-again Inv-loop μ-loop
-loop-again c = (omega arith, anyOf-not (λ l. isAbout l (entryOf (c .before .before .before .before .before .before .args .e))) (c .before .before .before .before .before .before .args .t2 .at) (c .before .before .before .before .loop .j) noLiteral (omega (arith, c .before .before .before .before .before .instances-of .ensures .long, c .before .before .before .before .before .instances-of .ensures .few)) (c .before .before .before .before .loop .inv .1) (sym (c .before .is-about .ensures) ∙ c .if1 .left))
+loop-again c =
+    let args = c .before .before .before .before .before .before .args in
+    let instances-of = c .before .before .before .before .before .instances-of in
+    let loop = c .before .before .before .before .loop in
+    (omega arith, anyOf-not (λ l. isAbout l (entryOf (args .e))) (args .t2 .at) (loop .j) noLiteral (omega (arith, instances-of .ensures .long, instances-of .ensures .few)) (loop .inv .1) (sym (c .before .is-about .ensures) ∙ c .if1 .left))
 
 returns-2 : tie.Need-returns-2 Inv-loop μ-loop
-returns-2 c = let e : c .before .loop .j ≡ c .before .before .instances-of .result = omega arith in sym (ap (anyOf (λ l. isAbout l (entryOf (c .before .before .before .args .e)))) (sym (c .before .before .instances-of .ensures .same)) ∙ rw e at (c .before .loop .inv .1))
+returns-2 c =
+    let instances-of = c .before .before .instances-of in
+    let loop = c .before .loop in
+    let e : loop .j ≡ instances-of .result = omega arith in
+    sym (ap (anyOf (λ l. isAbout l (entryOf (c .before .before .before .args .e)))) (sym (instances-of .ensures .same)) ∙ rw e at (loop .inv .1))
 
 pub is-about-any-spec : {M : Type 1} → statement M
 is-about-any-spec =

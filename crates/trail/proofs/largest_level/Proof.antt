@@ -44,7 +44,10 @@ loop-less : tie.Need-loop-less Inv-loop μ-loop
 loop-less c = search needs
 
 loop-again : tie.Need-loop-again Inv-loop μ-loop
-loop-again c = (omega arith, search needs, rw add-one (cc), rw add-one (cc (largest-turn (entryOf (getD (c .before .before .before .before .before .before .args .t1) (c .before .before .before .before .before .loop .k) pastEnd)) (trailOf (c .before .before .before .before .before .before .args .t1) (c .before .before .before .before .before .loop .k)) (take (c .before .before .before .before .before .before .args .d .count) (c .before .before .before .before .before .before .args .d .at)))))
+loop-again c =
+    let args = c .before .before .before .before .before .before .args in
+    let loop = c .before .before .before .before .before .loop in
+    (omega arith, search needs, rw add-one (cc), rw add-one (cc (largest-turn (entryOf (getD (args .t1) (loop .k) pastEnd)) (trailOf (args .t1) (loop .k)) (take (args .d .count) (args .d .at)))))
 
 returns : tie.Need-returns Inv-loop μ-loop
 returns c = let e : c .before .loop .k ≡ c .before .before .args .length = omega arith in cc

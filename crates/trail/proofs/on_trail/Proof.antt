@@ -30,7 +30,9 @@ is-literal-requires : tie.Need-is-literal-requires Inv-loop μ-loop
 is-literal-requires c κs = search needs
 
 returns : tie.Need-returns Inv-loop μ-loop
-returns c = sym (any-found (isLiteral (c .before .before .before .before .before .args .l)) (c .before .before .before .before .before .args .t1) (c .before .before .before .before .loop .k) (c .before .before .before .before .before .args .length) (omega arith) (sym (c .before .is-literal .ensures) ∙ c .if1 .taken))
+returns c =
+    let args = c .before .before .before .before .before .args in
+    sym (any-found (isLiteral (args .l)) (args .t1) (c .before .before .before .before .loop .k) (args .length) (omega arith) (sym (c .before .is-literal .ensures) ∙ c .if1 .taken))
 
 add-k : tie.Need-add-k Inv-loop μ-loop
 add-k c = search needs
@@ -39,10 +41,16 @@ loop-less : tie.Need-loop-less Inv-loop μ-loop
 loop-less c = search needs
 
 loop-again : tie.Need-loop-again Inv-loop μ-loop
-loop-again c = (omega arith, search needs, any-more (isLiteral (c .before .before .before .before .before .args .l)) (c .before .before .before .before .before .args .t1) (c .before .before .before .before .loop .k) (c .before .before .before .before .loop .inv .2) (sym (c .before .is-literal .ensures) ∙ c .if1 .left))
+loop-again c =
+    let args = c .before .before .before .before .before .args in
+    let loop = c .before .before .before .before .loop in
+    (omega arith, search needs, any-more (isLiteral (args .l)) (args .t1) (loop .k) (loop .inv .2) (sym (c .before .is-literal .ensures) ∙ c .if1 .left))
 
 returns-2 : tie.Need-returns-2 Inv-loop μ-loop
-returns-2 c = let e : c .before .loop .k ≡ c .before .before .args .length = omega arith in rw e at (sym (c .before .loop .inv .2))
+returns-2 c =
+    let loop = c .before .loop in
+    let e : loop .k ≡ c .before .before .args .length = omega arith in
+    rw e at (sym (loop .inv .2))
 
 pub on-trail-spec : {M : Type 1} → statement M
 on-trail-spec =

@@ -60,19 +60,38 @@ loop-less : tie.Need-loop-less Inv-loop μ-loop
 loop-less c = search needs
 
 loop-again : tie.Need-loop-again Inv-loop μ-loop
-loop-again c = let xs = map (ground (take (c .before .before .before .before .before .before .before .before .before .before .args .n .clause .variables) (c .before .before .before .before .before .before .before .before .before .before .args .n .instance))) (without (c .before .before .before .before .before .before .place-of .result) (take (c .before .before .before .before .loop .j) (c .before .before .before .before .before .before .before .before .before .before .args .n .clause .literals))) in let more = others-kept (ground (take (c .before .before .before .before .before .before .before .before .before .before .args .n .clause .variables) (c .before .before .before .before .before .before .before .before .before .before .args .n .instance))) (c .before .before .before .before .before .before .place-of .result) (c .before .before .before .before .before .before .before .before .before .before .args .n .clause .literals) (c .before .before .before .before .loop .j) noLiteral (omega (arith, c .before .before .before .before .before .before .before .literals-of .ensures .few, c .before .before .before .before .before .before .before .literals-of .ensures .long)) (λ e. c .before .if1 .taken (omega arith)) ∙ ap (λ g. xs ++ (g ∷ [])) (sym (c .ground .ensures)) in let t = stored-more noLiteral mostLiterals (c .before .before .before .before .loop .count) (c .before .before .before .before .loop .at) xs _ (c .ground .result) (c .before .before .before .before .loop .inv .2) (c .before .before .before .before .loop .inv .3) (omega (arith, c .before .before .before .before .before .before .before .literals-of .ensures .few)) more in (omega arith, omega arith, t .0, t .1)
+loop-again c =
+    let args = c .before .before .before .before .before .before .before .before .before .before .args in
+    let literals-of = c .before .before .before .before .before .before .before .literals-of in
+    let place-of = c .before .before .before .before .before .before .place-of in
+    let loop = c .before .before .before .before .loop in
+    let xs = map (ground (take (args .n .clause .variables) (args .n .instance))) (without (place-of .result) (take (loop .j) (args .n .clause .literals))) in
+    let more = others-kept (ground (take (args .n .clause .variables) (args .n .instance))) (place-of .result) (args .n .clause .literals) (loop .j) noLiteral (omega (arith, literals-of .ensures .few, literals-of .ensures .long)) (λ e. c .before .if1 .taken (omega arith)) ∙ ap (λ g. xs ++ (g ∷ [])) (sym (c .ground .ensures)) in
+    let t = stored-more noLiteral mostLiterals (loop .count) (loop .at) xs _ (c .ground .result) (loop .inv .2) (loop .inv .3) (omega (arith, literals-of .ensures .few)) more in
+    (omega arith, omega arith, t .0, t .1)
 
 loop-less-2 : tie.Need-loop-less-2 Inv-loop μ-loop
 loop-less-2 c = search needs
 
 loop-again-2 : tie.Need-loop-again-2 Inv-loop μ-loop
-loop-again-2 c = let same = others-skipped (ground (take (c .before .before .before .before .before .before .before .before .before .args .n .clause .variables) (c .before .before .before .before .before .before .before .before .before .args .n .instance))) (c .before .before .before .before .before .place-of .result) (c .before .before .before .before .before .before .before .before .before .args .n .clause .literals) (c .before .before .before .loop .j) noLiteral (omega (arith, c .before .before .before .before .before .before .literals-of .ensures .few, c .before .before .before .before .before .before .literals-of .ensures .long)) (omega arith) in (omega arith, omega arith, c .before .before .before .loop .inv .2 ∙ ap length (sym same), c .before .before .before .loop .inv .3 ∙ ap (exactly mostLiterals noLiteral) (sym same))
+loop-again-2 c =
+    let args = c .before .before .before .before .before .before .before .before .before .args in
+    let literals-of = c .before .before .before .before .before .before .literals-of in
+    let loop = c .before .before .before .loop in
+    let same = others-skipped (ground (take (args .n .clause .variables) (args .n .instance))) (c .before .before .before .before .before .place-of .result) (args .n .clause .literals) (loop .j) noLiteral (omega (arith, literals-of .ensures .few, literals-of .ensures .long)) (omega arith) in
+    (omega arith, omega arith, loop .inv .2 ∙ ap length (sym same), loop .inv .3 ∙ ap (exactly mostLiterals noLiteral) (sym same))
 
 cast-t23 : tie.Need-cast-t23 Inv-loop μ-loop
 cast-t23 c = search needs
 
 returns : tie.Need-returns Inv-loop μ-loop
-returns c = let e : c .before .loop .j ≡ c .before .before .before .before .literals-of .result = omega arith in let all = ap₂ (λ i r. map (ground (take (c .before .before .before .before .before .before .before .args .n .clause .variables) (c .before .before .before .before .before .before .before .args .n .instance))) (without i r)) (c .before .before .before .place-of .ensures) (ap (λ k. take k (c .before .before .before .before .before .before .before .args .n .clause .literals)) e ∙ c .before .before .before .before .literals-of .ensures .same) in record { few = omega (arith, ap length all, c .before .before .before .before .literals-of .ensures .few); packed = packed-others (c .before .loop .inv .2) (c .before .loop .inv .3) all }
+returns c =
+    let args = c .before .before .before .before .before .before .before .args in
+    let literals-of = c .before .before .before .before .literals-of in
+    let loop = c .before .loop in
+    let e : loop .j ≡ literals-of .result = omega arith in
+    let all = ap₂ (λ i r. map (ground (take (args .n .clause .variables) (args .n .instance))) (without i r)) (c .before .before .before .place-of .ensures) (ap (λ k. take k (args .n .clause .literals)) e ∙ literals-of .ensures .same) in
+    record { few = omega (arith, ap length all, literals-of .ensures .few); packed = packed-others (loop .inv .2) (loop .inv .3) all }
 
 pub other-instances-spec : {M : Type 1} → statement M
 other-instances-spec =

@@ -29,13 +29,22 @@ enum-known-answer : tie.Need-enum-known-answer
 enum-known-answer c = search needs
 
 returns : tie.Need-returns
-returns c = rw (c .enum-told .given .1) at (answer-says (c .before .before .before .before .before .before .before .args .constants) (c .before .before .possible .result) (both-gathered (groundAtoms (take (c .before .before .before .before .before .before .before .args .count) (c .before .before .before .before .before .before .before .args .instance)) (clauseOf (c .before .before .before .before .before .before .before .args .clause) .atoms)) (c .before .before .before .before .before .before .trail-atoms .ensures) (c .before .before .before .before .before .with-atoms .ensures)) (c .before .before .possible .ensures))
+returns c =
+    let args = c .before .before .before .before .before .before .before .args in
+    let possible = c .before .before .possible in
+    rw (c .enum-told .given .1) at (answer-says (args .constants) (possible .result) (both-gathered (groundAtoms (take (args .count) (args .instance)) (clauseOf (args .clause) .atoms)) (c .before .before .before .before .before .before .trail-atoms .ensures) (c .before .before .before .before .before .with-atoms .ensures)) (possible .ensures))
 
 returns-2 : tie.Need-returns-2
-returns-2 c = rw (c .enum-told2 .given .1) at (answer-says (c .before .before .before .before .before .before .before .args .constants) (c .before .before .possible .result) (both-gathered (groundAtoms (take (c .before .before .before .before .before .before .before .args .count) (c .before .before .before .before .before .before .before .args .instance)) (clauseOf (c .before .before .before .before .before .before .before .args .clause) .atoms)) (c .before .before .before .before .before .before .trail-atoms .ensures) (c .before .before .before .before .before .with-atoms .ensures)) (c .before .before .possible .ensures))
+returns-2 c =
+    let args = c .before .before .before .before .before .before .before .args in
+    let possible = c .before .before .possible in
+    rw (c .enum-told2 .given .1) at (answer-says (args .constants) (possible .result) (both-gathered (groundAtoms (take (args .count) (args .instance)) (clauseOf (args .clause) .atoms)) (c .before .before .before .before .before .before .trail-atoms .ensures) (c .before .before .before .before .before .with-atoms .ensures)) (possible .ensures))
 
 returns-3 : tie.Need-returns-3
-returns-3 c = rw (c .before .answer .given .1) at (answer-says (c .before .before .before .before .before .before .before .before .args .constants) (c .before .before .before .possible .result) (both-gathered (groundAtoms (take (c .before .before .before .before .before .before .before .before .args .count) (c .before .before .before .before .before .before .before .before .args .instance)) (clauseOf (c .before .before .before .before .before .before .before .before .args .clause) .atoms)) (c .before .before .before .before .before .before .before .trail-atoms .ensures) (c .before .before .before .before .before .before .with-atoms .ensures)) (c .before .before .before .possible .ensures))
+returns-3 c =
+    let args = c .before .before .before .before .before .before .before .before .args in
+    let possible = c .before .before .before .possible in
+    rw (c .before .answer .given .1) at (answer-says (args .constants) (possible .result) (both-gathered (groundAtoms (take (args .count) (args .instance)) (clauseOf (args .clause) .atoms)) (c .before .before .before .before .before .before .before .trail-atoms .ensures) (c .before .before .before .before .before .before .with-atoms .ensures)) (possible .ensures))
 
 pub possible-spec : {M : Type 1} → statement M
 possible-spec =

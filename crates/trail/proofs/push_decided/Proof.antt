@@ -9,7 +9,9 @@ no-room-requires : tie.Need-no-room-requires
 no-room-requires c κs = search needs
 
 returns : tie.Need-returns
-returns c = grew-none _ (c .no-room .ensures .0) (c .no-room .ensures .1) (omega (arith, trail-length (c .before .before .args .trail) (c .before .before .args .length)))
+returns c =
+    let args = c .before .before .args in
+    grew-none _ (c .no-room .ensures .0) (c .no-room .ensures .1) (omega (arith, trail-length (args .trail) (args .length)))
 
 decided-entry-requires : tie.Need-decided-entry-requires
 decided-entry-requires c κs = search needs

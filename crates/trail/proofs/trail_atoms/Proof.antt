@@ -49,13 +49,17 @@ loop-less : tie.Need-loop-less Inv-loop μ-loop
 loop-less c = search needs
 
 loop-again : tie.Need-loop-again Inv-loop μ-loop
-loop-again c = (omega arith, search needs, simp length-set (c .before .before .before .before .before .loop .inv .2), atoms-turn (c .before .before .before .before .before .before .before .args .t1) (c .before .before .before .before .before .loop .k) (c .before .before .before .before .before .loop .k - 1) (c .before .before .before .before .before .loop .m) (c .before .before .before .before .before .loop .atoms) (omega arith) (omega arith) (sym (c .before .before .is-background .ensures) ∙ c .before .if1 .taken) ∙ c .before .before .before .before .before .loop .inv .3)
+loop-again c =
+    let loop = c .before .before .before .before .before .loop in
+    (omega arith, search needs, simp length-set (loop .inv .2), atoms-turn (c .before .before .before .before .before .before .before .args .t1) (loop .k) (loop .k - 1) (loop .m) (loop .atoms) (omega arith) (omega arith) (sym (c .before .before .is-background .ensures) ∙ c .before .if1 .taken) ∙ loop .inv .3)
 
 loop-less-2 : tie.Need-loop-less-2 Inv-loop μ-loop
 loop-less-2 c = search needs
 
 loop-again-2 : tie.Need-loop-again-2 Inv-loop μ-loop
-loop-again-2 c = (omega arith, search needs, c .before .before .before .before .loop .inv .2, ap (λ r. take (c .before .before .before .before .loop .m) (c .before .before .before .before .loop .atoms) ++ r) (atoms-skip (c .before .before .before .before .before .before .args .t1) (c .before .before .before .before .loop .k) (c .before .before .before .before .loop .k - 1) (omega arith) (sym (c .before .is-background .ensures) ∙ c .if1 .left)) ∙ c .before .before .before .before .loop .inv .3)
+loop-again-2 c =
+    let loop = c .before .before .before .before .loop in
+    (omega arith, search needs, loop .inv .2, ap (λ r. take (loop .m) (loop .atoms) ++ r) (atoms-skip (c .before .before .before .before .before .before .args .t1) (loop .k) (loop .k - 1) (omega arith) (sym (c .before .is-background .ensures) ∙ c .if1 .left)) ∙ loop .inv .3)
 
 returns : tie.Need-returns Inv-loop μ-loop
 returns c = let e : c .before .loop .k ≡ 0 = omega arith in record { long = c .before .loop .inv .2; few = omega arith; says = sym (append-nil _) ∙ rw e at (c .before .loop .inv .3) }

@@ -31,7 +31,9 @@ is-about-requires : tie.Need-is-about-requires Inv-loop μ-loop
 is-about-requires c κs = search needs
 
 returns : tie.Need-returns Inv-loop μ-loop
-returns c = sym (ap not (either-on (c .before .before .before .before .before .args .l) (trailOf (c .before .before .before .before .before .args .t1) (c .before .before .before .before .before .args .length)) ∙ any-found (isAbout (c .before .before .before .before .before .args .l)) (c .before .before .before .before .before .args .t1) (c .before .before .before .before .loop .k) (c .before .before .before .before .before .args .length) (omega arith) (sym (c .before .is-about .ensures) ∙ c .if1 .taken)))
+returns c =
+    let args = c .before .before .before .before .before .args in
+    sym (ap not (either-on (args .l) (trailOf (args .t1) (args .length)) ∙ any-found (isAbout (args .l)) (args .t1) (c .before .before .before .before .loop .k) (args .length) (omega arith) (sym (c .before .is-about .ensures) ∙ c .if1 .taken)))
 
 add-k : tie.Need-add-k Inv-loop μ-loop
 add-k c = search needs
@@ -40,10 +42,17 @@ loop-less : tie.Need-loop-less Inv-loop μ-loop
 loop-less c = search needs
 
 loop-again : tie.Need-loop-again Inv-loop μ-loop
-loop-again c = (omega arith, search needs, any-more (isAbout (c .before .before .before .before .before .args .l)) (c .before .before .before .before .before .args .t1) (c .before .before .before .before .loop .k) (c .before .before .before .before .loop .inv .2) (sym (c .before .is-about .ensures) ∙ c .if1 .left))
+loop-again c =
+    let args = c .before .before .before .before .before .args in
+    let loop = c .before .before .before .before .loop in
+    (omega arith, search needs, any-more (isAbout (args .l)) (args .t1) (loop .k) (loop .inv .2) (sym (c .before .is-about .ensures) ∙ c .if1 .left))
 
 returns-2 : tie.Need-returns-2 Inv-loop μ-loop
-returns-2 c = let e : c .before .loop .k ≡ c .before .before .args .length = omega arith in sym (ap not (either-on (c .before .before .args .l) (trailOf (c .before .before .args .t1) (c .before .before .args .length)) ∙ rw e at (c .before .loop .inv .2)))
+returns-2 c =
+    let args = c .before .before .args in
+    let loop = c .before .loop in
+    let e : loop .k ≡ args .length = omega arith in
+    sym (ap not (either-on (args .l) (trailOf (args .t1) (args .length)) ∙ rw e at (loop .inv .2)))
 
 pub undefined-spec : {M : Type 1} → statement M
 undefined-spec =

@@ -49,10 +49,19 @@ loop-less : tie.Need-loop-less Inv-loop μ-loop
 loop-less c = search needs
 
 loop-again : tie.Need-loop-again Inv-loop μ-loop
-loop-again c = (omega arith, omega arith, simp length-set (c .before .before .before .loop .inv .2), ap (λ x. take (c .before .before .before .loop .m + 1) (set (c .before .before .before .loop .atoms) (c .before .before .before .loop .m) x)) (c .ground-atom .ensures) ∙ atoms-more (renameAtom (under (take (c .before .before .before .before .before .before .args .count) (c .before .before .before .before .before .before .args .instance)))) (c .before .before .before .before .before .before .args .t2 .atoms) (c .before .before .before .loop .j) noAtom (c .before .before .before .loop .atoms) (take (c .before .before .before .before .before .before .args .tested .count) (c .before .before .before .before .before .before .args .tested .atoms)) (c .before .before .before .loop .m) (omega (arith, c .before .before .before .before .before .atoms-of .ensures .few, c .before .before .before .before .before .atoms-of .ensures .long)) (omega (arith, c .before .before .before .before .before .atoms-of .ensures .few)) (c .before .before .before .loop .inv .3))
+loop-again c =
+    let args = c .before .before .before .before .before .before .args in
+    let atoms-of = c .before .before .before .before .before .atoms-of in
+    let loop = c .before .before .before .loop in
+    (omega arith, omega arith, simp length-set (loop .inv .2), ap (λ x. take (loop .m + 1) (set (loop .atoms) (loop .m) x)) (c .ground-atom .ensures) ∙ atoms-more (renameAtom (under (take (args .count) (args .instance)))) (args .t2 .atoms) (loop .j) noAtom (loop .atoms) (take (args .tested .count) (args .tested .atoms)) (loop .m) (omega (arith, atoms-of .ensures .few, atoms-of .ensures .long)) (omega (arith, atoms-of .ensures .few)) (loop .inv .3))
 
 returns : tie.Need-returns Inv-loop μ-loop
-returns c = let e : c .before .loop .j ≡ c .before .before .before .atoms-of .result = omega arith in record { long = c .before .loop .inv .2; few = omega (arith, c .before .before .before .atoms-of .ensures .few); says = c .before .loop .inv .3 ∙ ap (λ r. take (c .before .before .before .before .args .tested .count) (c .before .before .before .before .args .tested .atoms) ++ groundAtoms (take (c .before .before .before .before .args .count) (c .before .before .before .before .args .instance)) r) (ap (λ k. take k (c .before .before .before .before .args .t2 .atoms)) e ∙ c .before .before .before .atoms-of .ensures .same) }
+returns c =
+    let args = c .before .before .before .before .args in
+    let atoms-of = c .before .before .before .atoms-of in
+    let loop = c .before .loop in
+    let e : loop .j ≡ atoms-of .result = omega arith in
+    record { long = loop .inv .2; few = omega (arith, atoms-of .ensures .few); says = loop .inv .3 ∙ ap (λ r. take (args .tested .count) (args .tested .atoms) ++ groundAtoms (take (args .count) (args .instance)) r) (ap (λ k. take k (args .t2 .atoms)) e ∙ atoms-of .ensures .same) }
 
 pub with-atoms-spec : {M : Type 1} → statement M
 with-atoms-spec =

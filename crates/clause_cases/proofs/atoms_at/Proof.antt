@@ -1,0 +1,83 @@
+-- `clause_cases::atoms_at` stays within its bounds and ends.
+use borrow.Author.Needs.{needs}
+use mathlib.Core.Path.{_≡_, ap, _∙_}
+use mathlib.Core.Logic.{⊎-elim}
+use Prim.Native.Nat.{_-_, _≤_}
+use lib.ListN.{length, length-set}
+use native.Mathlib.Omega.{arith}
+use Rattle.basis.specs.Limits.{mostAtoms}
+use Rattle.clause_cases.proofs.atoms_at.Statement.{statement}
+use Rattle.clause_cases.proofs.atoms_at.Tie as tie
+
+abbrev Inv-loop : tie.InvT-loop
+Inv-loop s at list₀ next₀ k₀ list next k = (k ≤ mostAtoms) × (length list ≡ mostAtoms)
+
+abbrev μ-loop : tie.MeasureT-loop
+μ-loop s at list₀ next₀ k₀ list next k = mostAtoms - k
+
+loop-holds : tie.Need-loop-holds Inv-loop μ-loop
+loop-holds c = search needs
+
+more-requires : tie.Need-more-requires Inv-loop μ-loop
+more-requires c κs = search needs
+
+number-requires : tie.Need-number-requires Inv-loop μ-loop
+number-requires c κs = search needs
+
+number-requires-2 : tie.Need-number-requires-2 Inv-loop μ-loop
+number-requires-2 c κs = search needs
+
+number-requires-3 : tie.Need-number-requires-3 Inv-loop μ-loop
+number-requires-3 c κs = search needs
+
+small-requires : tie.Need-small-requires Inv-loop μ-loop
+small-requires c κs = search needs
+
+small-requires-2 : tie.Need-small-requires-2 Inv-loop μ-loop
+small-requires-2 c κs = search needs
+
+signed-requires : tie.Need-signed-requires Inv-loop μ-loop
+signed-requires c κs = search needs
+
+mul-list : tie.Need-mul-list Inv-loop μ-loop
+mul-list c = search needs
+
+array-set-from-list : tie.Need-array-set-from-list Inv-loop μ-loop
+array-set-from-list c = search needs
+
+add-k : tie.Need-add-k Inv-loop μ-loop
+add-k c = search needs
+
+loop-less : tie.Need-loop-less Inv-loop μ-loop
+loop-less c = search needs
+
+loop-again : tie.Need-loop-again Inv-loop μ-loop
+loop-again c = ⊎-elim (λ w. (omega arith, ap length (w .7) ∙ simp length-set (c .before .before .before .loop .inv .1))) (λ w. (omega arith, ap length (w .1) ∙ c .before .before .before .loop .inv .1)) (c .if1 .came)
+
+past-bar-requires : tie.Need-past-bar-requires Inv-loop μ-loop
+past-bar-requires c κs = search needs
+
+returns : tie.Need-returns Inv-loop μ-loop
+returns c = search needs
+
+pub atoms-at-spec : {M : Type 1} → statement M
+atoms-at-spec =
+    tie.close
+    (tie.spec
+    Inv-loop
+    μ-loop
+    loop-holds
+    more-requires
+    number-requires
+    number-requires-2
+    number-requires-3
+    small-requires
+    small-requires-2
+    signed-requires
+    mul-list
+    array-set-from-list
+    add-k
+    loop-less
+    loop-again
+    past-bar-requires
+    returns)
