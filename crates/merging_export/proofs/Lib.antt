@@ -1,0 +1,2 @@
+-- Laws of gathering and weighing, and the proofs of the functions.
+pub mod Totals

@@ -1,0 +1,2 @@
+-- The resolvent for other languages: what its number says.
+pub mod Export
