@@ -1,18 +1,15 @@
 -- The constraint test known by its promise: yes exactly if the atoms are such as it takes, and possible.
 use mathlib.Core.Path.{_≡_, subst}
-use mathlib.Core.Logic.{_↔_}
 use mathlib.Core.List.{List, _++_}
 use mathlib.Core.Bool.{Bool, false, true}
 use Prim.Native.Nat.{_≤_, ℕ}
 use native.Mathlib.Omega.{arith}
-use lib.Dec.{T}
 use lib.ListN.{length, take}
-use Rattle.basis.specs.Atoms.{Possible, Proper, noAtom}
+use Rattle.basis.specs.Atoms.{Proper, noAtom}
 use Rattle.basis.specs.Limits.{mostTested}
-use Rattle.basis.specs.Numbers.{whole}
 use Rattle.basis.specs.declared.Atom.{Atom}
 use Rattle.lists.proofs.Members.{member-at, of-members}
-use Rattle.trail.specs.Answers.{Gathers, Testable}
+use Rattle.trail.specs.Answers.{Gathers, SaysPossible, Testable}
 use Rattle.trail.specs.declared.Tested.{Tested}
 use Rattle.constraint.specs.declared.Answer.{Answer}
 use Rattle.constraint.specs.declared.Answer.the-variants.{Yes, No, Refused}
@@ -34,10 +31,10 @@ refused-not n m atoms a b h e (Refusal.too-many f) t = f (record { few-constants
 refused-not n m atoms a b h e (Refusal.improper k C i f g) t = g (t .proper (atomAt atoms k) (member-at noAtom atoms m k i (omega arith)))
 
 pub answer-says : {t : Tested} {xs : List Atom} (constants : ℕ) (r : Answer) → Gathers t mostTested xs → Says constants (t .count) (t .atoms) r
-    → T (isYes r) ↔ (Testable constants xs × Possible whole constants xs)
-answer-says {t} {xs} n r G S = subst (λ ys. T (isYes r) ↔ (Testable n ys × Possible whole n ys)) (G .says) (go r S)
+    → SaysPossible constants xs (isYes r)
+answer-says {t} {xs} n r G S = subst (λ ys. SaysPossible n ys (isYes r)) (G .says) (go r S)
   where
-    go : (r : Answer) → Says n (t .count) (t .atoms) r → T (isYes r) ↔ (Testable n (take (t .count) (t .atoms)) × Possible whole n (take (t .count) (t .atoms)))
+    go : (r : Answer) → Says n (t .count) (t .atoms) r → SaysPossible n (take (t .count) (t .atoms)) (isYes r)
     go Yes s = ((λ u. (record { few-constants = s .0 .counted .few-constants; proper = of-members noAtom (Proper n) (t .atoms) (t .count) (s .0 .proper) }, s .1)), λ h. tt)
     go No s = ((λ u. absurd u), λ h. s .1 (h .1))
     go (Refused a b) s = ((λ u. absurd u), λ h. refused-not n (t .count) (t .atoms) a b (G .few) (G .long) s (h .0))

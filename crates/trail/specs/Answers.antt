@@ -1,18 +1,20 @@
 -- What the functions answer: the walk of refusal 12, what grows, and what the constraint test is asked.
 use mathlib.Core.Path.{_≡_}
-use mathlib.Core.List.{List, [], List·Memᴰ}
+use mathlib.Core.Logic.{_↔_}
+use mathlib.Core.List.{List, [], _++_, List·Memᴰ}
 use mathlib.Core.Bool.{Bool, true, false, _&&_, _||_, cond}
 use Prim.Native.Nat.{ℕ, zero, _≤_}
-use lib.Dec.{leb}
+use lib.Dec.{T, leb}
 use lib.ListN.{length, take}
 use Rattle.basis.specs.declared.Atom.{Atom}
 use Rattle.basis.specs.declared.Literal.{Literal}
 use Rattle.basis.specs.Limits.{mostConstants, mostEntries, mostLiterals, mostTested}
-use Rattle.basis.specs.Atoms.{Proper}
+use Rattle.basis.specs.Numbers.{whole}
+use Rattle.basis.specs.Atoms.{Proper, Possible}
 use Rattle.lists.specs.Lists.{allOf}
 use Rattle.lists.specs.Arrays.{exactly}
-use Rattle.calculus.specs.Clauses.{sameLiteral, complement, ground, noLiteral}
-use Rattle.calculus.specs.Trails.{Trail, Entry, foreground, background, isLiteral, isFalse}
+use Rattle.calculus.specs.Clauses.{Clause, sameLiteral, complement, ground, groundAtoms, noLiteral}
+use Rattle.calculus.specs.Trails.{Trail, Entry, foreground, background, isLiteral, isFalse, atomsOf}
 use Rattle.calculus.specs.Rules.{firstFailing}
 use Rattle.trail.specs.declared.Grown.{Grown}
 use Rattle.trail.specs.declared.Instances.{Instances}
@@ -73,3 +75,11 @@ pub record Gathers (t : Tested) (most : ℕ) (atoms : List Atom) : Type 0 where
 pub record Testable (constants : ℕ) (atoms : List Atom) : Type 0 where
   pub few-constants : constants ≤ mostConstants
   pub proper : (a : Atom) → List·Memᴰ a atoms → Proper constants a
+
+-- "trail atoms and the clause's atoms together", those of the clause's instance under τ
+abbrev pub together : Trail → Clause → List ℕ → List Atom
+together t C τ = atomsOf t ++ groundAtoms τ (C .atoms)
+
+-- The answer is yes exactly if the constraint test takes the atoms and they are possible.
+abbrev pub SaysPossible : ℕ → List Atom → Bool → Type 0
+SaysPossible constants atoms b = T b ↔ (Testable constants atoms × Possible whole constants atoms)

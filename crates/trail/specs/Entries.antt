@@ -1,7 +1,7 @@
 -- Entry records as the calculus's entries, and arrays of them as trails.
 use mathlib.Core.Path.{_≡_}
 use mathlib.Core.List.{List, [], _∷_, map, reverse}
-use mathlib.Core.Bool.{Bool, false}
+use mathlib.Core.Bool.{false}
 use Prim.Native.Nat.{ℕ, zero, suc, _≤_}
 use lib.ListN.{length, getD, take}
 use Rattle.basis.specs.Limits.{mostEntries, mostVariables}

@@ -2,15 +2,11 @@
 // An array with its length is the trail of its first entries; length is at most 160. Functions that add or take away entries also take for
 // granted that the array is blank past its length and that each entry is the record of what it says: `Held`.
 ghost use mathlib.Core.Path.{_≡_};
-ghost use mathlib.Core.Logic.{_↔_};
 ghost use mathlib.Core.List.{[], _∷_, _++_};
 ghost use mathlib.Core.Bool.{false, _&&_, cond};
 ghost use Prim.Native.Nat.{suc, _-_, _≤_, _<_};
-ghost use lib.Dec.{T};
 ghost use lib.ListN.{length, getD, take};
 ghost use Rattle.basis.specs.Limits.{mostVariables, mostAtoms, mostLiterals, mostEntries, mostTested};
-ghost use Rattle.basis.specs.Numbers.{whole};
-ghost use Rattle.basis.specs.Atoms.{Possible};
 ghost use Rattle.lists.specs.Arrays.{exactly};
 ghost use Rattle.lists.specs.Lists.{anyOf};
 ghost use Rattle.calculus.specs.Clauses.{noLiteral, sameLiteral, groundAtoms};
@@ -20,7 +16,7 @@ ghost use Rattle.calculus.specs.Trails as trails;
 ghost use Rattle.calculus.specs.Rules.{otherInstances, backLevel, propagatedTrail, withoutLast};
 ghost use Rattle.clauses.specs.Records.{clauseOf, instancedOf};
 ghost use Rattle.trail.specs.Entries.{noEntry, entryOf, trailOf, packedTrail, Stored, Held, Recorded};
-ghost use Rattle.trail.specs.Answers.{Counts, isAbout, passes, firstNumber, Listed, Grew, isBackground, Gathers, Testable};
+ghost use Rattle.trail.specs.Answers.{Counts, isAbout, passes, firstNumber, Listed, Grew, isBackground, Gathers, together, SaysPossible};
 use basis::Atom;
 use basis::Literal;
 use basis::MOST_ATOMS;
@@ -755,7 +751,7 @@ pub fn possible(
     count: u8,
 ) -> bool
     requires { ⌜ length ≤ mostEntries ⌝ }
-    ensures { λ r. ⌜ T r ↔ (Testable constants (atomsOf (trailOf trail length) ++ groundAtoms (take count instance) (clauseOf clause .atoms)) × Possible whole constants (atomsOf (trailOf trail length) ++ groundAtoms (take count instance) (clauseOf clause .atoms))) ⌝ }
+    ensures { λ r. ⌜ SaysPossible constants (together (trailOf trail length) (clauseOf clause) (take count instance)) r ⌝ }
 {
     let own = trail_atoms(trail, length);
     let all = with_atoms(own, clause, instance, count);

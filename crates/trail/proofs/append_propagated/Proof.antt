@@ -24,7 +24,8 @@ abbrev μ-loop : tie.MeasureT-loop
 μ-loop len number l instance count clause m n out j a i₀ i = m - i
 
 abbrev Inv-atoms : tie.InvT-atoms
-Inv-atoms len number l instance count clause m₀ n out₀ j₀ m out j = (j ≤ n) × (m ≤ mostEntries) × Stored out m (appendAtoms (groundAtoms (take count instance) (take j (clause .atoms))) (trailOf out₀ m₀))
+Inv-atoms len number l instance count clause m₀ n out₀ j₀ m out j =
+    (j ≤ n) × (m ≤ mostEntries) × Stored out m (appendAtoms (groundAtoms (take count instance) (take j (clause .atoms))) (trailOf out₀ m₀))
 
 abbrev μ-atoms : tie.MeasureT-atoms
 μ-atoms len number l instance count clause m₀ n out₀ j₀ m out j = n - j
@@ -35,7 +36,13 @@ no-room-requires c κs = search needs
 returns : tie.Need-returns Inv-loop μ-loop Inv-atoms μ-atoms
 returns c =
     let args = c .before .before .args in
-    grew-none _ (c .no-room .ensures .0) (c .no-room .ensures .1) (omega (arith, trail-length (args .trail) (args .length), propagated-longer (clauseOf (args .t3)) (args .l - 1) (take (args .count) (args .instance)) (propagated (args .number) (args .l) (take (args .count) (args .instance))) (trailOf (args .trail) (args .length))))
+    grew-none _ (c .no-room .ensures .0) (c .no-room .ensures .1)
+    (omega (
+      arith,
+      trail-length (args .trail) (args .length),
+      propagated-longer (clauseOf (args .t3)) (args .l - 1) (take (args .count) (args .instance))
+          (propagated (args .number) (args .l) (take (args .count) (args .instance))) (trailOf (args .trail) (args .length)),
+    ))
 
 atoms-of-requires : tie.Need-atoms-of-requires Inv-loop μ-loop Inv-atoms μ-atoms
 atoms-of-requires c κs = search needs
@@ -90,8 +97,14 @@ atoms-again c =
     let args = c .before .before .before .before .before .before .before .before .before .before .before .before .before .args in
     let atoms-of = c .before .before .before .before .before .before .before .before .before .before .before .atoms-of in
     let atoms = c .before .before .before .before .before .before .before .before .atoms in
-    let ground-atom = c .before .before .before .before .before .ground-atom in
-    (omega arith, search needs, stored-found (renameAtom (under (take (args .count) (args .instance)))) (args .t3 .atoms) _ noAtom (atoms .inv .2) (ground-atom .ensures) (omega (arith, atoms-of .ensures .few, atoms-of .ensures .long)) (any-found (isAtom (ground-atom .result)) (atoms .out) (c .before .before .before .before .loop .i) (atoms .m) (omega arith) (sym (c .before .is-atom .ensures) ∙ c .if2 .taken)))
+    let ground-atom = c .before .before .before .before .before .ground-atom in (
+      omega arith,
+      search needs,
+      stored-found (renameAtom (under (take (args .count) (args .instance)))) (args .t3 .atoms) _ noAtom (atoms .inv .2) (ground-atom .ensures)
+          (omega (arith, atoms-of .ensures .few, atoms-of .ensures .long))
+          (any-found (isAtom (ground-atom .result)) (atoms .out) (c .before .before .before .before .loop .i) (atoms .m) (omega arith)
+          (sym (c .before .is-atom .ensures) ∙ c .if2 .taken)),
+    )
 
 add-i : tie.Need-add-i Inv-loop μ-loop Inv-atoms μ-atoms
 add-i c = search needs
@@ -101,8 +114,11 @@ loop-less c = search needs
 
 loop-again : tie.Need-loop-again Inv-loop μ-loop Inv-atoms μ-atoms
 loop-again c =
-    let loop = c .before .before .before .before .loop in
-    (omega arith, any-more (isAtom (c .before .before .before .before .before .ground-atom .result)) (c .before .before .before .before .before .before .before .before .atoms .out) (loop .i) (loop .inv .1) (sym (c .before .is-atom .ensures) ∙ c .if2 .left))
+    let loop = c .before .before .before .before .loop in (
+      omega arith,
+      any-more (isAtom (c .before .before .before .before .before .ground-atom .result))
+          (c .before .before .before .before .before .before .before .before .atoms .out) (loop .i) (loop .inv .1) (sym (c .before .is-atom .ensures) ∙ c .if2 .left),
+    )
 
 no-room-requires-2 : tie.Need-no-room-requires-2 Inv-loop μ-loop Inv-atoms μ-atoms
 no-room-requires-2 c κs = search needs
@@ -114,7 +130,16 @@ returns-2 c =
     let literal-instance = c .before .before .before .before .before .before .before .before .before .literal-instance in
     let atoms = c .before .before .before .before .before .before .before .atoms in
     let loop = c .before .before .before .loop in
-    grew-none _ (c .no-room2 .ensures .0) (c .no-room2 .ensures .1) (subst (λ t. mostEntries < length t) (propagated-done (clauseOf (args .t3)) (args .l - 1) (take (args .count) (args .instance)) (propagated (args .number) (args .l) (take (args .count) (args .instance))) (trailOf (args .trail) (args .length)) _ (take (atoms-of .result) (args .t3 .atoms)) (literal-instance .result) (atoms-of .ensures .same) (literal-instance .ensures) (stored-pushed (c .before .before .before .before .before .before .before .before .before .before .before .before .pre) (omega arith) (c .before .before .before .before .before .before .before .before .propagated-entry .ensures) .says)) (no-room-for (renameAtom (under (take (args .count) (args .instance)))) (args .t3 .atoms) _ noAtom (atoms .inv .2) (c .before .before .before .before .ground-atom .ensures) (omega (arith, atoms-of .ensures .few, atoms-of .ensures .long)) (atoms-of .result) (omega arith) (omega arith) (let e : loop .i ≡ atoms .m = omega arith in rw e at (loop .inv .1))))
+    grew-none _ (c .no-room2 .ensures .0) (c .no-room2 .ensures .1)
+    (subst (λ t. mostEntries < length t)
+    (propagated-done (clauseOf (args .t3)) (args .l - 1) (take (args .count) (args .instance))
+    (propagated (args .number) (args .l) (take (args .count) (args .instance))) (trailOf (args .trail) (args .length)) _
+    (take (atoms-of .result) (args .t3 .atoms)) (literal-instance .result) (atoms-of .ensures .same) (literal-instance .ensures)
+    (stored-pushed (c .before .before .before .before .before .before .before .before .before .before .before .before .pre) (omega arith)
+    (c .before .before .before .before .before .before .before .before .propagated-entry .ensures) .says))
+    (no-room-for (renameAtom (under (take (args .count) (args .instance)))) (args .t3 .atoms) _ noAtom (atoms .inv .2)
+    (c .before .before .before .before .ground-atom .ensures) (omega (arith, atoms-of .ensures .few, atoms-of .ensures .long)) (atoms-of .result)
+    (omega arith) (omega arith) (let e : loop .i ≡ atoms .m = omega arith in rw e at (loop .inv .1))))
 
 background-entry-requires : tie.Need-background-entry-requires Inv-loop μ-loop Inv-atoms μ-atoms
 background-entry-requires c κs = search needs
@@ -136,8 +161,13 @@ atoms-again-2 c =
     let args = c .before .before .before .before .before .before .before .before .before .before .before .before .args in
     let atoms-of = c .before .before .before .before .before .before .before .before .before .before .atoms-of in
     let atoms = c .before .before .before .before .before .before .before .atoms in
-    let loop = c .before .before .before .loop in
-    (omega arith, omega arith, stored-new (renameAtom (under (take (args .count) (args .instance)))) (args .t3 .atoms) _ noAtom (atoms .inv .2) (c .before .before .before .before .ground-atom .ensures) (omega (arith, atoms-of .ensures .few, atoms-of .ensures .long)) (omega arith) (c .background-entry .ensures) (let e : loop .i ≡ atoms .m = omega arith in rw e at (loop .inv .1)))
+    let loop = c .before .before .before .loop in (
+      omega arith,
+      omega arith,
+      stored-new (renameAtom (under (take (args .count) (args .instance)))) (args .t3 .atoms) _ noAtom (atoms .inv .2)
+          (c .before .before .before .before .ground-atom .ensures) (omega (arith, atoms-of .ensures .few, atoms-of .ensures .long)) (omega arith)
+          (c .background-entry .ensures) (let e : loop .i ≡ atoms .m = omega arith in rw e at (loop .inv .1)),
+    )
 
 cast-t38 : tie.Need-cast-t38 Inv-loop μ-loop Inv-atoms μ-atoms
 cast-t38 c = search needs
@@ -149,7 +179,13 @@ returns-3 c =
     let literal-instance = c .before .before .before .literal-instance in
     let atoms = c .before .atoms in
     let e : atoms .j ≡ atoms-of .result = omega arith in
-    grew-all (subst (Stored (atoms .out) (atoms .m)) (propagated-done (clauseOf (args .t3)) (args .l - 1) (take (args .count) (args .instance)) (propagated (args .number) (args .l) (take (args .count) (args .instance))) (trailOf (args .trail) (args .length)) _ (take (atoms-of .result) (args .t3 .atoms)) (literal-instance .result) (atoms-of .ensures .same) (literal-instance .ensures) (stored-pushed (c .before .before .before .before .before .before .pre) (omega arith) (c .before .before .propagated-entry .ensures) .says)) (rw e at (atoms .inv .2)))
+    grew-all
+    (subst (Stored (atoms .out) (atoms .m))
+    (propagated-done (clauseOf (args .t3)) (args .l - 1) (take (args .count) (args .instance))
+    (propagated (args .number) (args .l) (take (args .count) (args .instance))) (trailOf (args .trail) (args .length)) _
+    (take (atoms-of .result) (args .t3 .atoms)) (literal-instance .result) (atoms-of .ensures .same) (literal-instance .ensures)
+    (stored-pushed (c .before .before .before .before .before .before .pre) (omega arith) (c .before .before .propagated-entry .ensures) .says))
+    (rw e at (atoms .inv .2)))
 
 pub append-propagated-spec : {M : Type 1} → statement M
 append-propagated-spec =

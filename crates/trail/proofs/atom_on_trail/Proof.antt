@@ -32,7 +32,9 @@ is-atom-requires c κs = search needs
 returns : tie.Need-returns Inv-loop μ-loop
 returns c =
     let args = c .before .before .before .before .before .args in
-    sym (any-found (isAtom (args .a)) (args .t1) (c .before .before .before .before .loop .k) (args .length) (omega arith) (sym (c .before .is-atom .ensures) ∙ c .if1 .taken))
+    sym
+    (any-found (isAtom (args .a)) (args .t1) (c .before .before .before .before .loop .k) (args .length) (omega arith)
+    (sym (c .before .is-atom .ensures) ∙ c .if1 .taken))
 
 add-k : tie.Need-add-k Inv-loop μ-loop
 add-k c = search needs

@@ -12,7 +12,8 @@ use Rattle.trail.proofs.cut_length.Statement.{statement}
 use Rattle.trail.proofs.cut_length.Tie as tie
 
 abbrev Inv-loop : tie.InvT-loop
-Inv-loop len level trail decisions₀ kept₀ k₀ d kept k = (k ≤ len) × (len ≤ mostEntries) × (d ≡ decisions (trailOf trail k)) × (kept ≤ k) × (trailOf trail kept ≡ cut level (trailOf trail k))
+Inv-loop len level trail decisions₀ kept₀ k₀ d kept k =
+    (k ≤ len) × (len ≤ mostEntries) × (d ≡ decisions (trailOf trail k)) × (kept ≤ k) × (trailOf trail kept ≡ cut level (trailOf trail k))
 
 abbrev μ-loop : tie.MeasureT-loop
 μ-loop len level trail decisions₀ kept₀ k₀ d kept k = len - k
@@ -47,7 +48,8 @@ loop-again c =
     let loop = c .before .before .before .before .loop in
     let decisions-with = c .before .decisions-with in
     let q : decisions-with .result ≡ decisions (trailOf (args .t1) (loop .k + 1)) = rw add-one (cc) in
-    let t = cut-turn (args .t1) (args .level) (loop .k) (decisions-with .result) (loop .kept) (c .either .result) q (loop .inv .3) (loop .inv .4) (c .either .ensures) in
+    let t =
+    cut-turn (args .t1) (args .level) (loop .k) (decisions-with .result) (loop .kept) (c .either .result) q (loop .inv .3) (loop .inv .4) (c .either .ensures) in
     (omega arith, search needs, q, t .0, t .1)
 
 returns : tie.Need-returns Inv-loop μ-loop

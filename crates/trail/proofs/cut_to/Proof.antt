@@ -34,8 +34,10 @@ loop-less c = search needs
 
 loop-again : tie.Need-loop-again Inv-loop μ-loop
 loop-again c =
-    let loop = c .before .loop in
-    (omega arith, stored-back (loop .out) (c .before .before .before .args .trail) (loop .k) (loop .k - 1) _ (omega arith) (c .before .before .no-entry .ensures) (loop .inv .1))
+    let loop = c .before .loop in (
+      omega arith,
+      stored-back (loop .out) (c .before .before .before .args .trail) (loop .k) (loop .k - 1) _ (omega arith) (c .before .before .no-entry .ensures) (loop .inv .1),
+    )
 
 returns : tie.Need-returns Inv-loop μ-loop
 returns c =

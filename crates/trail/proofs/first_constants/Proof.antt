@@ -33,8 +33,12 @@ loop-less c = search needs
 
 loop-again : tie.Need-loop-again Inv-loop μ-loop
 loop-again c =
-    let loop = c .before .loop in
-    (omega arith, omega arith, ap (λ r. set r (loop .k - 1) 0) (loop .inv .2) ∙ blanked (c .before .before .before .args .instance) (loop .k) (loop .k - 1) (c .before .before .constants-of .ensures .long) (omega arith) (omega arith))
+    let loop = c .before .loop in (
+      omega arith,
+      omega arith,
+      ap (λ r. set r (loop .k - 1) 0) (loop .inv .2)
+          ∙ blanked (c .before .before .before .args .instance) (loop .k) (loop .k - 1) (c .before .before .constants-of .ensures .long) (omega arith) (omega arith),
+    )
 
 returns : tie.Need-returns Inv-loop μ-loop
 returns c =

@@ -22,7 +22,8 @@ abbrev μ-entries : tie.MeasureT-entries
 μ-entries len instance count others own trail clause n m j₀ denied k₀ j k = n - k
 
 abbrev Inv-literals : tie.InvT-literals
-Inv-literals len instance count others own trail clause n m j₀ j = (j ≤ m) × (allOf (passes others own (trailOf trail len) (take count instance)) (take j (clause .literals)) ≡ true)
+Inv-literals len instance count others own trail clause n m j₀ j =
+    (j ≤ m) × (allOf (passes others own (trailOf trail len) (take count instance)) (take j (clause .literals)) ≡ true)
 
 abbrev μ-literals : tie.MeasureT-literals
 μ-literals len instance count others own trail clause n m j₀ j = m - j
@@ -54,8 +55,12 @@ literals-less c = search needs
 literals-again : tie.Need-literals-again Inv-entries μ-entries Inv-literals μ-literals
 literals-again c =
     let args = c .before .before .before .before .before .before .before .args in
-    let literals = c .before .before .before .before .before .literals in
-    (omega arith, own-passes (args .others) (args .own) (trailOf (args .t1) (args .length)) (take (args .count) (args .instance)) (args .t3 .literals) (literals .j) (c .before .before .before .before .before .before .literals-of .ensures) (literals .inv .1) (c .before .before .before .before .literals-test .taken) (c .before .before .ground .ensures) (c .before .is-own .ensures) (c .if1 .taken))
+    let literals = c .before .before .before .before .before .literals in (
+      omega arith,
+      own-passes (args .others) (args .own) (trailOf (args .t1) (args .length)) (take (args .count) (args .instance)) (args .t3 .literals) (literals .j)
+          (c .before .before .before .before .before .before .literals-of .ensures) (literals .inv .1) (c .before .before .before .before .literals-test .taken)
+          (c .before .before .ground .ensures) (c .before .is-own .ensures) (c .if1 .taken),
+    )
 
 complement-requires : tie.Need-complement-requires Inv-entries μ-entries Inv-literals μ-literals
 complement-requires c κs = search needs
@@ -84,8 +89,17 @@ literals-again-2 c =
     let literals = c .before .before .before .before .before .before .before .before .before .before .before .literals in
     let complement = c .before .before .before .before .before .complement in
     let entries = c .before .before .before .before .entries in
-    let found = any-found (isLiteral (complement .result)) (args .t1) (entries .k) (args .length) (c .before .before .before .entries-test .taken) (sym (c .before .is-literal .ensures) ∙ c .if2 .taken) in
-    rw (entries .inv .0) (omega arith, false-passes (args .others) (args .own) (trailOf (args .t1) (args .length)) (take (args .count) (args .instance)) (args .t3 .literals) (literals .j) (c .before .before .before .before .before .before .before .before .before .before .before .before .literals-of .ensures) (literals .inv .1) (c .before .before .before .before .before .before .before .before .before .before .literals-test .taken) (c .before .before .before .before .before .before .before .before .ground .ensures) (c .before .before .before .before .before .before .before .is-own .ensures) (complement .ensures) found)
+    let found =
+    any-found (isLiteral (complement .result)) (args .t1) (entries .k) (args .length) (c .before .before .before .entries-test .taken)
+    (sym (c .before .is-literal .ensures) ∙ c .if2 .taken) in
+    rw (entries .inv .0) (
+      omega arith,
+      false-passes (args .others) (args .own) (trailOf (args .t1) (args .length)) (take (args .count) (args .instance)) (args .t3 .literals) (literals .j)
+          (c .before .before .before .before .before .before .before .before .before .before .before .before .literals-of .ensures) (literals .inv .1)
+          (c .before .before .before .before .before .before .before .before .before .before .literals-test .taken)
+          (c .before .before .before .before .before .before .before .before .ground .ensures)
+          (c .before .before .before .before .before .before .before .is-own .ensures) (complement .ensures) found,
+    )
 
 add-k : tie.Need-add-k Inv-entries μ-entries Inv-literals μ-literals
 add-k c = search needs
@@ -95,8 +109,13 @@ entries-less c = search needs
 
 entries-again : tie.Need-entries-again Inv-entries μ-entries Inv-literals μ-literals
 entries-again c =
-    let entries = c .before .before .before .before .entries in
-    (entries .inv .0, omega arith, any-more (isLiteral (c .before .before .before .before .before .complement .result)) (c .before .before .before .before .before .before .before .before .before .before .before .before .before .args .t1) (entries .k) (entries .inv .2) (sym (c .before .is-literal .ensures) ∙ c .if2 .left))
+    let entries = c .before .before .before .before .entries in (
+      entries .inv .0,
+      omega arith,
+      any-more (isLiteral (c .before .before .before .before .before .complement .result))
+          (c .before .before .before .before .before .before .before .before .before .before .before .before .before .args .t1) (entries .k) (entries .inv .2)
+          (sym (c .before .is-literal .ensures) ∙ c .if2 .left),
+    )
 
 add-result : tie.Need-add-result Inv-entries μ-entries Inv-literals μ-literals
 add-result c = search needs
@@ -108,13 +127,25 @@ returns : tie.Need-returns Inv-entries μ-entries Inv-literals μ-literals
 returns c =
     let args = c .before .before .before .before .args in
     let literals = c .before .before .literals in
-    ⊎-elim (λ w. absurd (omega (arith, w .0 .left))) (λ w. let all : w .6 .k ≡ args .length = omega (arith, w .6 .inv .1, w .7 .left) in ap (λ k. k + 1) (w .8 ∙ w .6 .inv .0) ∙ sym (first-not-false (args .others) (args .own) (trailOf (args .t1) (args .length)) (take (args .count) (args .instance)) (args .t3 .literals) (literals .j) (c .before .before .before .literals-of .ensures) (literals .inv .1) (w .0 .taken) (w .2 .ensures) (w .3 .ensures) (w .5 .ensures) (w .4 .left) (rw all at (w .6 .inv .2)))) (c .before .literals-test .came)
+    ⊎-elim (λ w. absurd (omega (arith, w .0 .left)))
+    (λ w.
+    let all : w .6 .k ≡ args .length = omega (arith, w .6 .inv .1, w .7 .left) in
+    ap (λ k. k + 1) (w .8 ∙ w .6 .inv .0)
+    ∙ sym
+    (first-not-false (args .others) (args .own) (trailOf (args .t1) (args .length)) (take (args .count) (args .instance)) (args .t3 .literals)
+    (literals .j) (c .before .before .before .literals-of .ensures) (literals .inv .1) (w .0 .taken) (w .2 .ensures) (w .3 .ensures) (w .5 .ensures)
+    (w .4 .left) (rw all at (w .6 .inv .2)))) (c .before .literals-test .came)
 
 returns-2 : tie.Need-returns-2 Inv-entries μ-entries Inv-literals μ-literals
 returns-2 c =
     let args = c .before .before .before .before .args in
     let literals = c .before .before .literals in
-    ⊎-elim (λ w. sym (none-left (args .others) (args .own) (trailOf (args .t1) (args .length)) (take (args .count) (args .instance)) (args .t3 .literals) (literals .j) (c .before .before .before .literals-of .ensures) (literals .inv .1) (omega (arith, w .0 .left)))) (λ w. absurd (omega (arith, w .0 .taken, w .6 .inv .0, w .8))) (c .before .literals-test .came)
+    ⊎-elim
+    (λ w.
+    sym
+    (none-left (args .others) (args .own) (trailOf (args .t1) (args .length)) (take (args .count) (args .instance)) (args .t3 .literals) (literals .j)
+    (c .before .before .before .literals-of .ensures) (literals .inv .1) (omega (arith, w .0 .left))))
+    (λ w. absurd (omega (arith, w .0 .taken, w .6 .inv .0, w .8))) (c .before .literals-test .came)
 
 pub first-not-false-spec : {M : Type 1} → statement M
 first-not-false-spec =

@@ -38,7 +38,10 @@ returns : tie.Need-returns Inv-loop μ-loop
 returns c =
     let args = c .before .before .before .before .before .before .args in
     let instances-of = c .before .before .before .before .before .instances-of in
-    sym (ap (anyOf (λ l. isAbout l (entryOf (args .e)))) (sym (instances-of .ensures .same)) ∙ anyOf-found (λ l. isAbout l (entryOf (args .e))) (args .t2 .at) (c .before .before .before .before .loop .j) (instances-of .result) noLiteral (omega arith) (omega (arith, instances-of .ensures .long, instances-of .ensures .few)) (sym (c .before .is-about .ensures) ∙ c .if1 .taken))
+    sym
+    (ap (anyOf (λ l. isAbout l (entryOf (args .e)))) (sym (instances-of .ensures .same))
+    ∙ anyOf-found (λ l. isAbout l (entryOf (args .e))) (args .t2 .at) (c .before .before .before .before .loop .j) (instances-of .result) noLiteral (omega arith)
+    (omega (arith, instances-of .ensures .long, instances-of .ensures .few)) (sym (c .before .is-about .ensures) ∙ c .if1 .taken))
 
 add-j : tie.Need-add-j Inv-loop μ-loop
 add-j c = search needs
@@ -50,8 +53,11 @@ loop-again : tie.Need-loop-again Inv-loop μ-loop
 loop-again c =
     let args = c .before .before .before .before .before .before .args in
     let instances-of = c .before .before .before .before .before .instances-of in
-    let loop = c .before .before .before .before .loop in
-    (omega arith, anyOf-not (λ l. isAbout l (entryOf (args .e))) (args .t2 .at) (loop .j) noLiteral (omega (arith, instances-of .ensures .long, instances-of .ensures .few)) (loop .inv .1) (sym (c .before .is-about .ensures) ∙ c .if1 .left))
+    let loop = c .before .before .before .before .loop in (
+      omega arith,
+      anyOf-not (λ l. isAbout l (entryOf (args .e))) (args .t2 .at) (loop .j) noLiteral (omega (arith, instances-of .ensures .long, instances-of .ensures .few))
+          (loop .inv .1) (sym (c .before .is-about .ensures) ∙ c .if1 .left),
+    )
 
 returns-2 : tie.Need-returns-2 Inv-loop μ-loop
 returns-2 c =

@@ -14,7 +14,8 @@ use Rattle.trail.proofs.largest_level.Statement.{statement}
 use Rattle.trail.proofs.largest_level.Tie as tie
 
 abbrev Inv-loop : tie.InvT-loop
-Inv-loop len d trail n decisions₀ level₀ k₀ ds level k = (k ≤ n) × (n ≤ mostEntries) × (ds ≡ decisions (trailOf trail k)) × (level ≡ largestLevel (trailOf trail k) (take (d .count) (d .at)))
+Inv-loop len d trail n decisions₀ level₀ k₀ ds level k =
+    (k ≤ n) × (n ≤ mostEntries) × (ds ≡ decisions (trailOf trail k)) × (level ≡ largestLevel (trailOf trail k) (take (d .count) (d .at)))
 
 abbrev μ-loop : tie.MeasureT-loop
 μ-loop len d trail n decisions₀ level₀ k₀ ds level k = n - k
@@ -46,8 +47,12 @@ loop-less c = search needs
 loop-again : tie.Need-loop-again Inv-loop μ-loop
 loop-again c =
     let args = c .before .before .before .before .before .before .args in
-    let loop = c .before .before .before .before .before .loop in
-    (omega arith, search needs, rw add-one (cc), rw add-one (cc (largest-turn (entryOf (getD (args .t1) (loop .k) pastEnd)) (trailOf (args .t1) (loop .k)) (take (args .d .count) (args .d .at)))))
+    let loop = c .before .before .before .before .before .loop in (
+      omega arith,
+      search needs,
+      rw add-one (cc),
+      rw add-one (cc (largest-turn (entryOf (getD (args .t1) (loop .k) pastEnd)) (trailOf (args .t1) (loop .k)) (take (args .d .count) (args .d .at)))),
+    )
 
 returns : tie.Need-returns Inv-loop μ-loop
 returns c = let e : c .before .loop .k ≡ c .before .before .args .length = omega arith in cc

@@ -31,7 +31,8 @@ ground-requires-2 : tie.Need-ground-requires-2
 ground-requires-2 c κs = search needs
 
 returns-2 : tie.Need-returns-2
-returns-2 c = let e = counted-past (c .before .before .before .before .literals-of .ensures) (c .before .before .before .place-of .result) noLiteral (omega arith) in cc
+returns-2 c =
+    let e = counted-past (c .before .before .before .before .literals-of .ensures) (c .before .before .before .place-of .result) noLiteral (omega arith) in cc
 
 pub literal-instance-spec : {M : Type 1} → statement M
 literal-instance-spec =

@@ -15,7 +15,9 @@ use Rattle.trail.proofs.other_instances.Statement.{statement}
 use Rattle.trail.proofs.other_instances.Tie as tie
 
 abbrev Inv-loop : tie.InvT-loop
-Inv-loop l clause instance variables m i at₀ count₀ j₀ at count j = (j ≤ m) × (count ≤ j) × (count ≡ length (map (ground (take variables instance)) (without i (take j (clause .literals))))) × (at ≡ exactly mostLiterals noLiteral (map (ground (take variables instance)) (without i (take j (clause .literals)))))
+Inv-loop l clause instance variables m i at₀ count₀ j₀ at count j =
+    (j ≤ m) × (count ≤ j) × (count ≡ length (map (ground (take variables instance)) (without i (take j (clause .literals))))) ×
+    (at ≡ exactly mostLiterals noLiteral (map (ground (take variables instance)) (without i (take j (clause .literals)))))
 
 abbrev μ-loop : tie.MeasureT-loop
 μ-loop l clause instance variables m i at₀ count₀ j₀ at count j = m - j
@@ -66,8 +68,13 @@ loop-again c =
     let place-of = c .before .before .before .before .before .before .place-of in
     let loop = c .before .before .before .before .loop in
     let xs = map (ground (take (args .n .clause .variables) (args .n .instance))) (without (place-of .result) (take (loop .j) (args .n .clause .literals))) in
-    let more = others-kept (ground (take (args .n .clause .variables) (args .n .instance))) (place-of .result) (args .n .clause .literals) (loop .j) noLiteral (omega (arith, literals-of .ensures .few, literals-of .ensures .long)) (λ e. c .before .if1 .taken (omega arith)) ∙ ap (λ g. xs ++ (g ∷ [])) (sym (c .ground .ensures)) in
-    let t = stored-more noLiteral mostLiterals (loop .count) (loop .at) xs _ (c .ground .result) (loop .inv .2) (loop .inv .3) (omega (arith, literals-of .ensures .few)) more in
+    let more =
+    others-kept (ground (take (args .n .clause .variables) (args .n .instance))) (place-of .result) (args .n .clause .literals) (loop .j) noLiteral
+    (omega (arith, literals-of .ensures .few, literals-of .ensures .long)) (λ e. c .before .if1 .taken (omega arith))
+    ∙ ap (λ g. xs ++ (g ∷ [])) (sym (c .ground .ensures)) in
+    let t =
+    stored-more noLiteral mostLiterals (loop .count) (loop .at) xs _ (c .ground .result) (loop .inv .2) (loop .inv .3) (omega (arith, literals-of .ensures .few))
+    more in
     (omega arith, omega arith, t .0, t .1)
 
 loop-less-2 : tie.Need-loop-less-2 Inv-loop μ-loop
@@ -78,7 +85,9 @@ loop-again-2 c =
     let args = c .before .before .before .before .before .before .before .before .before .args in
     let literals-of = c .before .before .before .before .before .before .literals-of in
     let loop = c .before .before .before .loop in
-    let same = others-skipped (ground (take (args .n .clause .variables) (args .n .instance))) (c .before .before .before .before .before .place-of .result) (args .n .clause .literals) (loop .j) noLiteral (omega (arith, literals-of .ensures .few, literals-of .ensures .long)) (omega arith) in
+    let same =
+    others-skipped (ground (take (args .n .clause .variables) (args .n .instance))) (c .before .before .before .before .before .place-of .result)
+    (args .n .clause .literals) (loop .j) noLiteral (omega (arith, literals-of .ensures .few, literals-of .ensures .long)) (omega arith) in
     (omega arith, omega arith, loop .inv .2 ∙ ap length (sym same), loop .inv .3 ∙ ap (exactly mostLiterals noLiteral) (sym same))
 
 cast-t23 : tie.Need-cast-t23 Inv-loop μ-loop
@@ -90,7 +99,9 @@ returns c =
     let literals-of = c .before .before .before .before .literals-of in
     let loop = c .before .loop in
     let e : loop .j ≡ literals-of .result = omega arith in
-    let all = ap₂ (λ i r. map (ground (take (args .n .clause .variables) (args .n .instance))) (without i r)) (c .before .before .before .place-of .ensures) (ap (λ k. take k (args .n .clause .literals)) e ∙ literals-of .ensures .same) in
+    let all =
+    ap₂ (λ i r. map (ground (take (args .n .clause .variables) (args .n .instance))) (without i r)) (c .before .before .before .place-of .ensures)
+    (ap (λ k. take k (args .n .clause .literals)) e ∙ literals-of .ensures .same) in
     record { few = omega (arith, ap length all, literals-of .ensures .few); packed = packed-others (loop .inv .2) (loop .inv .3) all }
 
 pub other-instances-spec : {M : Type 1} → statement M

@@ -32,19 +32,31 @@ returns : tie.Need-returns
 returns c =
     let args = c .before .before .before .before .before .before .before .args in
     let possible = c .before .before .possible in
-    rw (c .enum-told .given .1) at (answer-says (args .constants) (possible .result) (both-gathered (groundAtoms (take (args .count) (args .instance)) (clauseOf (args .clause) .atoms)) (c .before .before .before .before .before .before .trail-atoms .ensures) (c .before .before .before .before .before .with-atoms .ensures)) (possible .ensures))
+    rw (c .enum-told .given .1) at
+    (answer-says (args .constants) (possible .result)
+    (both-gathered (groundAtoms (take (args .count) (args .instance)) (clauseOf (args .clause) .atoms))
+    (c .before .before .before .before .before .before .trail-atoms .ensures) (c .before .before .before .before .before .with-atoms .ensures))
+    (possible .ensures))
 
 returns-2 : tie.Need-returns-2
 returns-2 c =
     let args = c .before .before .before .before .before .before .before .args in
     let possible = c .before .before .possible in
-    rw (c .enum-told2 .given .1) at (answer-says (args .constants) (possible .result) (both-gathered (groundAtoms (take (args .count) (args .instance)) (clauseOf (args .clause) .atoms)) (c .before .before .before .before .before .before .trail-atoms .ensures) (c .before .before .before .before .before .with-atoms .ensures)) (possible .ensures))
+    rw (c .enum-told2 .given .1) at
+    (answer-says (args .constants) (possible .result)
+    (both-gathered (groundAtoms (take (args .count) (args .instance)) (clauseOf (args .clause) .atoms))
+    (c .before .before .before .before .before .before .trail-atoms .ensures) (c .before .before .before .before .before .with-atoms .ensures))
+    (possible .ensures))
 
 returns-3 : tie.Need-returns-3
 returns-3 c =
     let args = c .before .before .before .before .before .before .before .before .args in
     let possible = c .before .before .before .possible in
-    rw (c .before .answer .given .1) at (answer-says (args .constants) (possible .result) (both-gathered (groundAtoms (take (args .count) (args .instance)) (clauseOf (args .clause) .atoms)) (c .before .before .before .before .before .before .before .trail-atoms .ensures) (c .before .before .before .before .before .before .with-atoms .ensures)) (possible .ensures))
+    rw (c .before .answer .given .1) at
+    (answer-says (args .constants) (possible .result)
+    (both-gathered (groundAtoms (take (args .count) (args .instance)) (clauseOf (args .clause) .atoms))
+    (c .before .before .before .before .before .before .before .trail-atoms .ensures)
+    (c .before .before .before .before .before .before .with-atoms .ensures)) (possible .ensures))
 
 pub possible-spec : {M : Type 1} → statement M
 possible-spec =

@@ -13,7 +13,8 @@ use Rattle.trail.proofs.trail_atoms.Statement.{statement}
 use Rattle.trail.proofs.trail_atoms.Tie as tie
 
 abbrev Inv-loop : tie.InvT-loop
-Inv-loop len trail atoms₀ m₀ k₀ atoms m k = (m + k ≤ len) × (len ≤ mostEntries) × (length atoms ≡ mostTested) × (take m atoms ++ atomsOf (trailOf trail k) ≡ atomsOf (trailOf trail len))
+Inv-loop len trail atoms₀ m₀ k₀ atoms m k =
+    (m + k ≤ len) × (len ≤ mostEntries) × (length atoms ≡ mostTested) × (take m atoms ++ atomsOf (trailOf trail k) ≡ atomsOf (trailOf trail len))
 
 abbrev μ-loop : tie.MeasureT-loop
 μ-loop len trail atoms₀ m₀ k₀ atoms m k = k
@@ -50,19 +51,34 @@ loop-less c = search needs
 
 loop-again : tie.Need-loop-again Inv-loop μ-loop
 loop-again c =
-    let loop = c .before .before .before .before .before .loop in
-    (omega arith, search needs, simp length-set (loop .inv .2), atoms-turn (c .before .before .before .before .before .before .before .args .t1) (loop .k) (loop .k - 1) (loop .m) (loop .atoms) (omega arith) (omega arith) (sym (c .before .before .is-background .ensures) ∙ c .before .if1 .taken) ∙ loop .inv .3)
+    let loop = c .before .before .before .before .before .loop in (
+      omega arith,
+      search needs,
+      simp length-set (loop .inv .2),
+      atoms-turn (c .before .before .before .before .before .before .before .args .t1) (loop .k) (loop .k - 1) (loop .m) (loop .atoms) (omega arith) (omega arith)
+          (sym (c .before .before .is-background .ensures) ∙ c .before .if1 .taken)
+          ∙ loop .inv .3,
+    )
 
 loop-less-2 : tie.Need-loop-less-2 Inv-loop μ-loop
 loop-less-2 c = search needs
 
 loop-again-2 : tie.Need-loop-again-2 Inv-loop μ-loop
 loop-again-2 c =
-    let loop = c .before .before .before .before .loop in
-    (omega arith, search needs, loop .inv .2, ap (λ r. take (loop .m) (loop .atoms) ++ r) (atoms-skip (c .before .before .before .before .before .before .args .t1) (loop .k) (loop .k - 1) (omega arith) (sym (c .before .is-background .ensures) ∙ c .if1 .left)) ∙ loop .inv .3)
+    let loop = c .before .before .before .before .loop in (
+      omega arith,
+      search needs,
+      loop .inv .2,
+      ap (λ r. take (loop .m) (loop .atoms) ++ r)
+          (atoms-skip (c .before .before .before .before .before .before .args .t1) (loop .k) (loop .k - 1) (omega arith)
+          (sym (c .before .is-background .ensures) ∙ c .if1 .left))
+          ∙ loop .inv .3,
+    )
 
 returns : tie.Need-returns Inv-loop μ-loop
-returns c = let e : c .before .loop .k ≡ 0 = omega arith in record { long = c .before .loop .inv .2; few = omega arith; says = sym (append-nil _) ∙ rw e at (c .before .loop .inv .3) }
+returns c =
+    let e : c .before .loop .k ≡ 0 = omega arith in
+    record { long = c .before .loop .inv .2; few = omega arith; says = sym (append-nil _) ∙ rw e at (c .before .loop .inv .3) }
 
 pub trail-atoms-spec : {M : Type 1} → statement M
 trail-atoms-spec =

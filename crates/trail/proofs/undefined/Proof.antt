@@ -33,7 +33,11 @@ is-about-requires c κs = search needs
 returns : tie.Need-returns Inv-loop μ-loop
 returns c =
     let args = c .before .before .before .before .before .args in
-    sym (ap not (either-on (args .l) (trailOf (args .t1) (args .length)) ∙ any-found (isAbout (args .l)) (args .t1) (c .before .before .before .before .loop .k) (args .length) (omega arith) (sym (c .before .is-about .ensures) ∙ c .if1 .taken)))
+    sym
+    (ap not
+    (either-on (args .l) (trailOf (args .t1) (args .length))
+    ∙ any-found (isAbout (args .l)) (args .t1) (c .before .before .before .before .loop .k) (args .length) (omega arith)
+    (sym (c .before .is-about .ensures) ∙ c .if1 .taken)))
 
 add-k : tie.Need-add-k Inv-loop μ-loop
 add-k c = search needs

@@ -13,7 +13,8 @@ use Rattle.trail.proofs.with_atoms.Statement.{statement}
 use Rattle.trail.proofs.with_atoms.Tie as tie
 
 abbrev Inv-loop : tie.InvT-loop
-Inv-loop instance count clause n atoms₀ m₀ j₀ atoms m j = (j ≤ n) × (m ≡ m₀ + j) × (length atoms ≡ mostTested) × (take m atoms ≡ take m₀ atoms₀ ++ groundAtoms (take count instance) (take j (clause .atoms)))
+Inv-loop instance count clause n atoms₀ m₀ j₀ atoms m j =
+    (j ≤ n) × (m ≡ m₀ + j) × (length atoms ≡ mostTested) × (take m atoms ≡ take m₀ atoms₀ ++ groundAtoms (take count instance) (take j (clause .atoms)))
 
 abbrev μ-loop : tie.MeasureT-loop
 μ-loop instance count clause n atoms₀ m₀ j₀ atoms m j = n - j
@@ -52,8 +53,15 @@ loop-again : tie.Need-loop-again Inv-loop μ-loop
 loop-again c =
     let args = c .before .before .before .before .before .before .args in
     let atoms-of = c .before .before .before .before .before .atoms-of in
-    let loop = c .before .before .before .loop in
-    (omega arith, omega arith, simp length-set (loop .inv .2), ap (λ x. take (loop .m + 1) (set (loop .atoms) (loop .m) x)) (c .ground-atom .ensures) ∙ atoms-more (renameAtom (under (take (args .count) (args .instance)))) (args .t2 .atoms) (loop .j) noAtom (loop .atoms) (take (args .tested .count) (args .tested .atoms)) (loop .m) (omega (arith, atoms-of .ensures .few, atoms-of .ensures .long)) (omega (arith, atoms-of .ensures .few)) (loop .inv .3))
+    let loop = c .before .before .before .loop in (
+      omega arith,
+      omega arith,
+      simp length-set (loop .inv .2),
+      ap (λ x. take (loop .m + 1) (set (loop .atoms) (loop .m) x)) (c .ground-atom .ensures)
+          ∙ atoms-more (renameAtom (under (take (args .count) (args .instance)))) (args .t2 .atoms) (loop .j) noAtom (loop .atoms)
+          (take (args .tested .count) (args .tested .atoms)) (loop .m) (omega (arith, atoms-of .ensures .few, atoms-of .ensures .long))
+          (omega (arith, atoms-of .ensures .few)) (loop .inv .3),
+    )
 
 returns : tie.Need-returns Inv-loop μ-loop
 returns c =
@@ -61,7 +69,8 @@ returns c =
     let atoms-of = c .before .before .before .atoms-of in
     let loop = c .before .loop in
     let e : loop .j ≡ atoms-of .result = omega arith in
-    record { long = loop .inv .2; few = omega (arith, atoms-of .ensures .few); says = loop .inv .3 ∙ ap (λ r. take (args .tested .count) (args .tested .atoms) ++ groundAtoms (take (args .count) (args .instance)) r) (ap (λ k. take k (args .t2 .atoms)) e ∙ atoms-of .ensures .same) }
+    record
+    { long = loop .inv .2; few = omega (arith, atoms-of .ensures .few); says = loop .inv .3 ∙ ap (λ r. take (args .tested .count) (args .tested .atoms) ++ groundAtoms (take (args .count) (args .instance)) r) (ap (λ k. take k (args .t2 .atoms)) e ∙ atoms-of .ensures .same) }
 
 pub with-atoms-spec : {M : Type 1} → statement M
 with-atoms-spec =
