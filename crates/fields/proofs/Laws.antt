@@ -18,7 +18,7 @@ use Rattle.runfile.specs.Readers.{Got, Reader, _judged_, _then_, bad, give, got
 use Rattle.fields.specs.declared.Cursor.the-variants as C
 
 -- A value and the place after it are no refusal.
-no-refusal : {A : Type 0} {P : Type 0} {x : A} {j n p : ℕ} → got x j ≡ bad n p → P
+pub no-refusal : {A : Type 0} {P : Type 0} {x : A} {j n p : ℕ} → got x j ≡ bad n p → P
 no-refusal e = let z : _≡_ {A = ℕ} 0 1 = ap kind e in absurd (omega arith)
   where
     kind : {A : Type 0} → Got A → ℕ
@@ -26,7 +26,7 @@ no-refusal e = let z : _≡_ {A = ℕ} 0 1 = ap kind e in absurd (omega arith)
     kind (bad n p) = 1
 
 -- A refusal is a refusal of whatever is read.
-same-refusal : {A B : Type 0} {n p m q : ℕ} → _≡_ {A = Got A} (bad n p) (bad m q) → _≡_ {A = Got B} (bad n p) (bad m q)
+pub same-refusal : {A B : Type 0} {n p m q : ℕ} → _≡_ {A = Got A} (bad n p) (bad m q) → _≡_ {A = Got B} (bad n p) (bad m q)
 same-refusal {A} {B} e = ap other e
   where
     other : Got A → Got B

@@ -79,9 +79,7 @@ literal arities v =
 
 -- "A clause's 5 then 6 at its end"
 abbrev pub classChecks : Clause → List Check
-classChecks C =
-    allOf (occursIn (C .atoms) (C .literals)) (upFrom 1 (C .variables)) or occursNowhere ∷
-    differencesBounded (C .atoms) or lacksBound ∷ []
+classChecks C = allOf (occursIn (C .atoms) (C .literals)) (upFrom 1 (C .variables)) or occursNowhere ∷ differencesBounded (C .atoms) or lacksBound ∷ []
 
 -- "Input clauses, then each: variables, atoms, literals, the atoms .., the literals"
 abbrev pub clauseFields : List ℕ → Reader Clause
