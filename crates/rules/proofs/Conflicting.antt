@@ -28,7 +28,7 @@ use Rattle.rules.proofs.Naming.{exists-is, exists-there, instance-is, i
 use Rattle.rules.proofs.Runs.{constants-is, input-is, learned-is, level-is, packed-as, standing, stands-is, stored}
 use Rattle.rules.proofs.Testing.{carry, not-zero, tested}
 use Rattle.rules.proofs.Told.{accepted-as, refused, refused-at, refused-by}
-use Rattle.trail.proofs.Walks.{its-number, none-fails, one-fails}
+use Rattle.trail.proofs.NotFalse.{its-number, none-fails, one-fails}
 use Rattle.trail.specs.Answers.{Testable, firstNumber, passes}
 use Rattle.trail.specs.Entries.{trailOf}
 

@@ -29,7 +29,7 @@ use Rattle.rules.proofs.Naming.{and-true, exists-is, exists-there, inst
 use Rattle.rules.proofs.Runs.{conflict-is, constants-is, input-is, learned-is, level-is, no-conflict, packed-as, standing, stands-is}
 use Rattle.rules.proofs.Testing.{carry, not-zero, tested}
 use Rattle.rules.proofs.Told.{accepted-as, refused, refused-at, refused-by}
-use Rattle.trail.proofs.Walks.{its-number, none-fails, one-fails}
+use Rattle.trail.proofs.NotFalse.{its-number, none-fails, one-fails}
 use Rattle.trail.specs.Answers.{Grew, Testable, firstNumber, passes}
 use Rattle.trail.specs.Entries.{Stored, trailOf}
 use Rattle.trail.specs.declared.Grown.{Grown}
