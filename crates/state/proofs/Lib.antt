@@ -1,0 +1,2 @@
+-- Why a run of the code is a run of the calculus.
+pub mod Runs

@@ -1,0 +1,53 @@
+-- Any run of the code from admission is a run of the calculus.
+use mathlib.Core.Path.{_≡_, refl, sym, ap, _∙_}
+use mathlib.Core.List.{List, [], _∷_, map}
+use mathlib.Core.Option.{Option, none, some}
+use mathlib.Core.Bool.{true}
+use Prim.Native.Nat.{ℕ}
+use native.Mathlib.Omega.{arith}
+use lib.ListN.{length}
+use Rattle.basis.specs.Numbers.{whole}
+use Rattle.calculus.specs.Clauses as calculus
+use Rattle.calculus.specs.Runs as runs
+use Rattle.calculus.specs.States as states
+use Rattle.calculus.proofs.Demands.{demand-2, demand-3}
+use Rattle.rules.proofs.Runs.{no-conflict}
+use Rattle.rules.specs.Records.{stepOf}
+use Rattle.rules.specs.declared.Step.{Step}
+use Rattle.rules.proofs.Told.{admitted-reached, steps-keep-reached}
+use Rattle.state.specs.States.{CodeReplays, CodeRun, CodeRunsAreRuns, CodeSound, StateOf, over, packedState, then}
+use Rattle.state.specs.declared.Answered.{Answered}
+use Rattle.state.specs.declared.State.{State}
+
+-- From any state reached
+code-run : {r r′ : State} {xs : List Step} (s : states.State) → StateOf r s → CodeRun r xs r′ → (s′ : states.State) × runs.Run whole s (map stepOf xs) s′ × (r′ ≡ packedState s′)
+code-run s S (over e) = (s, runs.over refl, sym e ∙ S .is)
+code-run s S (then x a h rest) =
+    let (b, j, e) = h s S in
+    let (s′, run, is) = code-run (b .state) (record { reached = steps-keep-reached s (stepOf x) b (S .reached) j; is = ap (λ (q : Answered). q .state) e }) rest in
+    (s′, runs.then b j run, is)
+
+pub code-runs-are-runs : CodeRunsAreRuns
+code-runs-are-runs s₀ r xs a h = code-run s₀ (record { reached = admitted-reached s₀ a; is = refl }) h
+
+-- ---- soundness and replay
+
+standing : (c : Option calculus.Instanced) → states.stands c ≡ true → c ≡ some (states.conflictOf c)
+standing none e = absurd (let z : _≡_ {A = ℕ} 0 1 = cc in omega arith)
+standing (some N) e = refl
+
+no-literals : {A : Type 0} (l : List A) → length l ≡ 0 → l ≡ []
+no-literals [] e = refl
+no-literals (x ∷ l) e = absurd (omega arith)
+
+pub code-sound : CodeSound
+code-sound s₀ r xs a h stands empty I =
+    let (s, run, is) = code-runs-are-runs s₀ r xs a h in
+    let c = standing (s .conflict) (sym (ap (λ (q : State). q .run .stands) is) ∙ stands) in
+    let e = no-literals (states.conflictOf (s .conflict) .clause .literals) (sym (ap (λ (q : State). q .run .conflict .clause .literalcount) is) ∙ empty) in
+    demand-2 s₀ s (map stepOf xs) (states.conflictOf (s .conflict)) a run c e I
+
+pub code-replays : CodeReplays
+code-replays s₀ r xs a h free =
+    let (s, run, is) = code-runs-are-runs s₀ r xs a h in
+    (s, is, demand-3 s₀ s (map stepOf xs) a run (no-conflict (s .conflict) (sym (ap (λ (q : State). q .run .stands) is) ∙ free)))

@@ -1,0 +1,76 @@
+-- The record of a whole state, what admission makes and what a step answers.
+use mathlib.Core.Path.{_≡_}
+use mathlib.Core.List.{List, [], _∷_, map, List·Memᴰ}
+use mathlib.Core.Bool.{true, false}
+use Prim.Native.Nat.{ℕ, _+_}
+use lib.ListN.{length}
+use Rattle.basis.specs.Limits.{mostInput, mostLearned, mostPredicates}
+use Rattle.basis.specs.Numbers.{whole}
+use Rattle.lists.specs.Arrays.{exactly}
+use Rattle.calculus.specs.Admission.{Admitted}
+use Rattle.calculus.specs.Clauses as calculus
+use Rattle.calculus.specs.Rules.{Answer, Judged}
+use Rattle.calculus.specs.Runs as runs
+use Rattle.calculus.specs.States as states
+use Rattle.calculus.specs.States.{clauses}
+use Rattle.calculus.specs.Truth.{Reading, True}
+use Rattle.clauses.specs.Records.{packed}
+use Rattle.clauses.specs.declared.Clause.{Clause}
+use Rattle.rules.specs.Answers.{Reached}
+use Rattle.rules.specs.Records.{packedRun, stepOf}
+use Rattle.rules.specs.declared.Step.{Step}
+use Rattle.state.specs.declared.State.{State}
+use Rattle.state.specs.declared.Answered.{Answered}
+
+-- "Learned clauses are numbered after the input ones": one table for both, blank past them.
+abbrev pub mostClauses : ℕ
+mostClauses = mostInput + mostLearned
+
+unfoldable pub packedTable : List calculus.Clause → List Clause
+packedTable cs = exactly mostClauses (packed calculus.noClause) (map packed cs)
+
+-- The record of a state
+abbrev pub packedState : states.State → State
+packedState s = record {
+  run = packedRun s;
+  predicates = length (s .arities);
+  arities = exactly mostPredicates 0 (s .arities);
+  table = packedTable (clauses s);
+}
+
+abbrev pub packedAnswer : Answer → Answered
+packedAnswer a = record { state = packedState (a .state); number = a .number; place = a .place }
+
+-- Taken for granted of a state record: it is that of a state reached.
+pub record StateOf (r : State) (s : states.State) : Type 0 where
+  pub reached : Reached s
+  pub is : r ≡ packedState s
+
+abbrev pub Kept : State → Type 0
+Kept r = (s : states.State) × StateOf r s
+
+-- What `step` promises: the calculus's answer, of every such state.
+abbrev pub Answers : State → Step → Answered → Type 0
+Answers r x a = (s : states.State) → StateOf r s → (b : Answer) × Judged whole s (stepOf x) b × (a ≡ packedAnswer b)
+
+-- A run of the code: steps given to `step` one after the other, each at the state that the one before handed back.
+pub data CodeRun : State → List Step → State → Type 0 where
+  over : {r r′ : State} → r ≡ r′ → CodeRun r [] r′
+  then : {r r′ : State} (x : Step) {xs : List Step} (a : Answered) → Answers r x a → CodeRun (a .state) xs r′ → CodeRun r (x ∷ xs) r′
+
+-- Any run of the code from a state that admission made is a run of the calculus. Proved in proofs/Runs.antt.
+abbrev pub CodeRunsAreRuns : Type 0
+CodeRunsAreRuns = (s₀ : states.State) (r : State) (xs : List Step) → Admitted s₀ → CodeRun (packedState s₀) xs r
+    → (s : states.State) × runs.Run whole s₀ (map stepOf xs) s × (r ≡ packedState s)
+
+-- So soundness holds of the code: "a run that reaches a conflict without foreground literals shows that no reading of the predicates over the
+-- whole numbers makes every input clause true."
+abbrev pub CodeSound : Type 1
+CodeSound = (s₀ : states.State) (r : State) (xs : List Step) → Admitted s₀ → CodeRun (packedState s₀) xs r → r .run .stands ≡ true → r .run .conflict .clause .literalcount ≡ 0
+    → (I : Reading whole (s₀ .arities)) → ((C : calculus.Clause) → List·Memᴰ C (s₀ .input) → True whole (s₀ .arities) I C) → ⊥
+
+-- .. and so does replay: ending with no conflict standing, the steps behind the trail's foreground entries, started again from an empty trail,
+-- are each accepted and give the same state.
+abbrev pub CodeReplays : Type 0
+CodeReplays = (s₀ : states.State) (r : State) (xs : List Step) → Admitted s₀ → CodeRun (packedState s₀) xs r → r .run .stands ≡ false
+    → (s : states.State) × (r ≡ packedState s) × runs.AcceptedRun whole (runs.restarted s) (runs.replayed (s .trail)) s
