@@ -1,0 +1,2 @@
+-- How the parts of a step and of a file follow each other.
+pub mod Parts
