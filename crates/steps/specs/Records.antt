@@ -1,4 +1,5 @@
 -- Step records, and the answers of reading a step and a whole file.
+use mathlib.Core.Path.{_≡_}
 use mathlib.Core.List.{List, []}
 use Prim.Native.Nat.{ℕ}
 use lib.ListN.{length}
@@ -8,10 +9,12 @@ use Rattle.calculus.specs.States.{Propagate, Decide, Conflict, Resolve, Factori
 use Rattle.calculus.specs.States as calculus
 use Rattle.runfile.specs.Readers.{Got, got, bad}
 use Rattle.runfile.specs.File.{File, Header, header, file}
+use Rattle.runfile.specs.Claims.{StepHeld}
 use Rattle.fields.specs.declared.Cursor.the-variants as C
 use Rattle.header.specs.declared.HeaderRead.{HeaderRead}
 use Rattle.header.specs.Records.{packedHeader}
 use Rattle.rules.specs.declared.Step.{Step}
+use Rattle.rules.specs.Records.{stepOf}
 use Rattle.steps.specs.declared.StepRead.{StepRead}
 
 -- A record with the arguments that a rule may have
@@ -43,3 +46,7 @@ inOrder (bad n p) h = bad n p
 -- The answer of reading a file: its header and the cursor of its first step, or the refusal
 abbrev pub fileAnswer : List ℕ → HeaderRead
 fileAnswer s = packedHeader (inOrder (file s) (header s 0))
+
+-- The record of a step that a file can hold says that step.
+abbrev pub StepSaid : Type 0
+StepSaid = (x : calculus.Step) → StepHeld x → stepOf (packedStep x) ≡ x
