@@ -316,8 +316,8 @@ fn predicates_at(s: &[u8], at: Cursor, n: u8) -> PredicatesRead
     }
 }
 
-// The answer where the file is refused
-fn no_header(number: u8, place: usize) -> HeaderRead
+// The answer where the file is refused: blank
+pub fn no_header(number: u8, place: usize) -> HeaderRead
     ensures { λ r. ⌜ r ≡ packedHeader (bad number place) ⌝ }
 {
     let none = no_clause();

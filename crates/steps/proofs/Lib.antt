@@ -1,0 +1,3 @@
+-- How the parts of a step and of a file follow each other.
+pub mod Parts
+pub mod Said

@@ -1,0 +1,19 @@
+-- `steps::backtrack_at` meets its contract.
+use denote.Ref.{now}
+use Rattle.fields.proofs.Laws.{told-view}
+use Rattle.steps.proofs.Parts.{backtrack-parts}
+use borrow.Author.Needs.{needs}
+use Rattle.steps.proofs.backtrack_at.Statement.{statement}
+use Rattle.steps.proofs.backtrack_at.Tie as tie
+
+byte-at-requires : tie.Need-byte-at-requires
+byte-at-requires c κs = search needs
+
+bare-requires : tie.Need-bare-requires
+bare-requires c κs = search needs
+
+returns : tie.Need-returns
+returns c = rw (c .bare .ensures) (backtrack-parts (now (c .before .before .before .args .s)) (c .before .before .before .args .at) (c .before .byte-at .result .at) (c .before .byte-at .result .value) (told-view (c .before .byte-at .ensures)))
+
+pub backtrack-at-spec : {M : Type 1} → statement M
+backtrack-at-spec = tie.close (tie.spec byte-at-requires bare-requires returns)

@@ -1,0 +1,19 @@
+-- `steps::conflict_at` meets its contract.
+use denote.Ref.{now}
+use Rattle.fields.proofs.Laws.{told-view}
+use Rattle.steps.proofs.Parts.{conflict-parts}
+use borrow.Author.Needs.{needs}
+use Rattle.steps.proofs.conflict_at.Statement.{statement}
+use Rattle.steps.proofs.conflict_at.Tie as tie
+
+byte-at-requires : tie.Need-byte-at-requires
+byte-at-requires c κs = search needs
+
+instance-at-requires : tie.Need-instance-at-requires
+instance-at-requires c κs = search needs
+
+returns : tie.Need-returns
+returns c = conflict-parts (now (c .before .before .before .before .args .s)) (c .before .instance-at .result .count) (c .before .instance-at .result .instance) (c .before .instance-at .ensures .1) (c .before .instance-at .ensures .2) (c .before .before .before .before .args .at) (c .before .before .byte-at .result .at) (c .before .instance-at .result .at) (c .before .before .byte-at .result .value) (told-view (c .before .before .byte-at .ensures)) (c .before .instance-at .ensures .0)
+
+pub conflict-at-spec : {M : Type 1} → statement M
+conflict-at-spec = tie.close (tie.spec byte-at-requires instance-at-requires returns)

@@ -1,0 +1,27 @@
+-- `steps::decide_at` meets its contract.
+use denote.Ref.{now}
+use Rattle.fields.proofs.Laws.{told-view}
+use Rattle.steps.proofs.Parts.{decide-parts}
+use borrow.Author.Needs.{needs}
+use Rattle.steps.proofs.decide_at.Statement.{statement}
+use Rattle.steps.proofs.decide_at.Tie as tie
+
+byte-at-requires : tie.Need-byte-at-requires
+byte-at-requires c κs = search needs
+
+byte-at-requires-2 : tie.Need-byte-at-requires-2
+byte-at-requires-2 c κs = search needs
+
+within-at-requires : tie.Need-within-at-requires
+within-at-requires c κs = search needs
+
+instance-at-requires : tie.Need-instance-at-requires
+instance-at-requires c κs = search needs
+
+returns : tie.Need-returns
+returns c = decide-parts (now (c .before .before .before .before .before .before .args .s)) (c .before .instance-at .result .count) (c .before .instance-at .result .instance) (c .before .instance-at .ensures .1) (c .before .instance-at .ensures .2) (c .before .before .before .before .before .before .args .at) (c .before .before .before .before .byte-at .result .at) (c .before .before .before .byte-at2 .result .at) (c .before .before .within-at .result .at) (c .before .instance-at .result .at) (c .before .before .before .before .byte-at .result .value) (c .before .before .before .byte-at2 .result .value) (c .before .before .within-at .result .value) (told-view (c .before .before .before .before .byte-at .ensures)) (told-view (c .before .before .before .byte-at2 .ensures)) (told-view (c .before .before .within-at .ensures)) (c .before .instance-at .ensures .0)
+
+pub decide-at-spec : {M : Type 1} → statement M
+decide-at-spec =
+    tie.close
+    (tie.spec byte-at-requires byte-at-requires-2 within-at-requires instance-at-requires returns)

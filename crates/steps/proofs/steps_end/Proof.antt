@@ -1,0 +1,41 @@
+-- `steps::steps_end` meets its contract.
+use borrow.Author.Needs.{needs}
+use mathlib.Core.Path.{_≡_}
+use Prim.Native.Nat.{_≤_, _-_}
+use native.Mathlib.Omega.{arith}
+use denote.Ref.{now}
+use Rattle.runfile.specs.Readers.{times}
+use Rattle.runfile.specs.File.{step}
+use Rattle.fields.specs.Views.{after, reached}
+use Rattle.steps.proofs.Parts.{ends-none, ends-more, step-ends}
+use Rattle.steps.proofs.steps_end.Statement.{statement}
+use Rattle.steps.proofs.steps_end.Tie as tie
+
+abbrev Inv-loop : tie.InvT-loop
+Inv-loop s n past₀ j₀ past j = (j ≤ n) × (past ≡ reached (after past₀ (times j step s)))
+
+abbrev μ-loop : tie.MeasureT-loop
+μ-loop s n past₀ j₀ past j = n - j
+
+loop-holds : tie.Need-loop-holds Inv-loop μ-loop
+loop-holds c = (omega arith, ends-none (now (c .before .args .s)) step (c .before .args .at))
+
+step-from-requires : tie.Need-step-from-requires Inv-loop μ-loop
+step-from-requires c κs = search needs
+
+add-j : tie.Need-add-j Inv-loop μ-loop
+add-j c = search needs
+
+loop-less : tie.Need-loop-less Inv-loop μ-loop
+loop-less c = search needs
+
+loop-again : tie.Need-loop-again Inv-loop μ-loop
+loop-again c = (omega arith, ends-more (now (c .before .before .before .before .args .s)) step (c .before .before .before .before .args .at) (c .before .before .loop .past) (c .step-from .result .at) (c .before .before .loop .j) (c .before .before .loop .inv .1) (step-ends (now (c .before .before .before .before .args .s)) (c .before .before .loop .past) (c .step-from .result .at) (c .step-from .result .step) (c .step-from .ensures)))
+
+returns : tie.Need-returns Inv-loop μ-loop
+returns c = let e : c .before .loop .j ≡ c .before .before .before .args .n = omega arith in rw e at (c .before .loop .inv .1)
+
+pub steps-end-spec : {M : Type 1} → statement M
+steps-end-spec =
+    tie.close
+    (tie.spec Inv-loop μ-loop loop-holds step-from-requires add-j loop-less loop-again returns)

@@ -1,0 +1,52 @@
+-- Step records, and the answers of reading a step and a whole file.
+use mathlib.Core.Path.{_≡_}
+use mathlib.Core.List.{List, []}
+use Prim.Native.Nat.{ℕ}
+use lib.ListN.{length}
+use Rattle.basis.specs.Limits.{mostVariables}
+use Rattle.lists.specs.Arrays.{exactly}
+use Rattle.calculus.specs.States.{Propagate, Decide, Conflict, Resolve, Factorize, Skip, Backtrack, Grow, Unknown}
+use Rattle.calculus.specs.States as calculus
+use Rattle.runfile.specs.Readers.{Got, got, bad}
+use Rattle.runfile.specs.File.{File, Header, header, file}
+use Rattle.runfile.specs.Claims.{StepHeld}
+use Rattle.fields.specs.declared.Cursor.the-variants as C
+use Rattle.header.specs.declared.HeaderRead.{HeaderRead}
+use Rattle.header.specs.Records.{packedHeader}
+use Rattle.rules.specs.declared.Step.{Step}
+use Rattle.rules.specs.Records.{stepOf}
+use Rattle.steps.specs.declared.StepRead.{StepRead}
+
+-- A record with the arguments that a rule may have
+abbrev pub stepRecord : (rule clause literal other sign amount : ℕ) → List ℕ → Step
+stepRecord r c l m g n τ = record { rule = r; clause = c; literal = l; other = m; sign = g; amount = n; count = length τ; instance = exactly mostVariables 0 τ }
+
+-- The record of a step; what its rule has no use for is 0.
+abbrev pub packedStep : calculus.Step → Step
+packedStep (Propagate c l τ) = stepRecord 1 c l 0 0 0 τ
+packedStep (Decide c l sign τ) = stepRecord 2 c l 0 sign 0 τ
+packedStep (Conflict c τ) = stepRecord 3 c 0 0 0 0 τ
+packedStep (Resolve l) = stepRecord 4 0 l 0 0 0 []
+packedStep (Factorize l m) = stepRecord 5 0 l m 0 0 []
+packedStep Skip = stepRecord 6 0 0 0 0 0 []
+packedStep (Backtrack l) = stepRecord 7 0 l 0 0 0 []
+packedStep (Grow n) = stepRecord 8 0 0 0 0 n []
+packedStep (Unknown r) = stepRecord r 0 0 0 0 0 []
+
+-- The answer of reading a step; blank where it is refused
+abbrev pub stepAnswer : Got calculus.Step → StepRead
+stepAnswer (got x next) = record { step = packedStep x; at = C.At next }
+stepAnswer (bad n p) = record { step = stepRecord 0 0 0 0 0 0 []; at = C.Refused n p }
+
+-- What stands before the first step, if the whole file is in order
+abbrev pub inOrder : Got File → Got Header → Got Header
+inOrder (got F next) h = h
+inOrder (bad n p) h = bad n p
+
+-- The answer of reading a file: its header and the cursor of its first step, or the refusal
+abbrev pub fileAnswer : List ℕ → HeaderRead
+fileAnswer s = packedHeader (inOrder (file s) (header s 0))
+
+-- The record of a step that a file can hold says that step.
+abbrev pub StepSaid : Type 0
+StepSaid = (x : calculus.Step) → StepHeld x → stepOf (packedStep x) ≡ x
