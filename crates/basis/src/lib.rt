@@ -13,9 +13,17 @@ pub const MOST_ARGUMENTS: usize = 3;
 
 pub const MOST_CONSTANTS: usize = 16;
 
+pub const MOST_ENTRIES: usize = 160;
+
+pub const MOST_LEARNED: usize = 48;
+
 pub const MOST_TESTED: usize = 184;
 
 pub const MOST_C: i32 = 1000000;
+
+pub const ENDS_INSIDE: u8 = 1;
+
+pub const WRONG_MARK: u8 = 2;
 
 pub const ABOVE_LIMIT: u8 = 3;
 
@@ -24,6 +32,30 @@ pub const OUT_OF_RANGE: u8 = 4;
 pub const OCCURS_NOWHERE: u8 = 5;
 
 pub const LACKS_BOUND: u8 = 6;
+
+pub const UNKNOWN_RULE: u8 = 7;
+
+pub const SURPLUS: u8 = 8;
+
+pub const WRONG_MOMENT: u8 = 9;
+
+pub const NO_SUCH: u8 = 10;
+
+pub const ALREADY_DEFINED: u8 = 11;
+
+pub const NOT_FALSE: u8 = 12;
+
+pub const NOT_POSSIBLE: u8 = 13;
+
+pub const NO_ENTRY: u8 = 14;
+
+pub const WRONG_LITERAL: u8 = 15;
+
+pub const NOT_ABOVE: u8 = 16;
+
+pub const KEPT_NOT_POSSIBLE: u8 = 17;
+
+pub const NO_ROOM: u8 = 18;
 
 // The atom record: a background atom p - q at most c, over places (a variable or a constant by its number; 0 is the number zero).
 pub struct Atom {

@@ -27,7 +27,6 @@ use Rattle.calculus.specs.Clauses.{Clause, arguments, noClause}
 use Rattle.calculus.specs.Merging.{occursIn}
 use Rattle.calculus.specs.States.{clauseAt}
 use Rattle.calculus.proofs.Reasons.{between-says, limited-says}
-use Rattle.calculus.proofs.Trails.{below, there}
 
 -- ---- the clause class
 

@@ -16,7 +16,6 @@ use Rattle.lists.proofs.Counting.{upFrom-mem, upFrom-out}
 use Rattle.lists.proofs.Members.{allOf-out, anyOf-out}
 use Rattle.lists.proofs.Tests.{and-l, and-r, holds}
 use Rattle.lists.specs.Lists.{allOf, anyOf, upFrom}
-use Rattle.calculus.specs.Answers.{rising}
 use Rattle.calculus.specs.Clauses.{sameAtom}
 use Rattle.calculus.specs.Rules.{Judged, answer, question}
 use Rattle.calculus.specs.States.{State, Step}

@@ -15,13 +15,12 @@ use Rattle.lists.proofs.Counting.{indexOf-keepIf, indexOf-lt, upFrom-length, up
 use Rattle.lists.proofs.Members.{anyOf-in, anyOf-out, getD-mem, keepIf-in, keepIf-out, keepIf-sat, keepIf-short, map-drop, map-take, pairUp-mem, pairUp-parts, without-out, without-short}
 use Rattle.lists.proofs.Tests.{F→eq, Said, T→eq, and-l, and-r, fails, holds, or-l, or-r, said}
 use Rattle.lists.specs.Lists.{anyOf, indexOf, keepIf, pairUp, upFrom, without}
-use Rattle.calculus.specs.Class.{Bounded, DifferencesBounded, InClass, Limited, Occurs, ProperLiteral, arityOf, in-atom, in-literal, withinLimits}
+use Rattle.calculus.specs.Class.{Bounded, DifferencesBounded, InClass, Limited, Occurs, ProperLiteral, arityOf, withinLimits}
 use Rattle.calculus.specs.Clauses.{Clause, Instanced, arguments, complement, ground, noLiteral, renameAtom, renameLiteral, sameLiteral, under}
 use Rattle.calculus.specs.Merging.{apart, closeUp, distinct, factored, join, joins, merge, occursIn, ownIndex, ownPairs, reason, reasonLiterals, resolvent}
 use Rattle.calculus.proofs.Derived.{ownPairs-out, reasonLiterals-out}
 use Rattle.calculus.proofs.Instances.{Inside, joins-le, upFrom-under}
 use Rattle.calculus.proofs.Merged.{distinct-in, distinct-out, distinct-short, sameLiteral→eq, swap, under-join}
-use Rattle.calculus.proofs.Trails.{below}
 use Rattle.calculus.proofs.Truths.{Alike}
 
 -- ---- what has the class's shape: places in range, differences bounded. Not yet: that each variable occurs
@@ -53,7 +52,7 @@ argument-le {v = v} h x m = go (argument-cases h x m)
     go (inr k) = k .1
 
 pub placed : {arities : List ℕ} {C : Clause} → InClass arities C → Inside (C .variables) (C .atoms) (C .literals)
-placed c = record { p-in = λ a m. c .atoms-proper a m .p-place; q-in = λ a m. c .atoms-proper a m .q-place; args-in = λ l m. argument-le (c .literals-proper l m) }
+placed c = record { p-in = λ a m. c .atoms-proper a m .p-place; q-in = λ a m. c .atoms-proper a m .q-place; arguments-in = λ l m. argument-le (c .literals-proper l m) }
 
 pub limited-of : (C : Clause) → T (withinLimits C) → Limited C
 limited-of C t =

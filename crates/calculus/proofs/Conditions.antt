@@ -5,7 +5,6 @@ use mathlib.Core.List.{List, List·Memᴰ, List·Memᴰ·cases-cons, List·Mem�
 use Prim.Native.Nat.{_<_, _≤_, zero, ℕ}
 use native.Mathlib.Omega.{arith}
 use lib.Dec.{leb, leb→le, nleb→lt}
-use Rattle.basis.specs.Atoms.{Holds}
 use Rattle.basis.specs.Numbers.{Numbers}
 use Rattle.basis.specs.Refusals.{accepted}
 use Rattle.basis.specs.declared.Literal.{Literal}
@@ -14,11 +13,10 @@ use Rattle.lists.proofs.Tests.{Said, fails, holds, said}
 use Rattle.calculus.specs.Checks.{Check}
 use Rattle.calculus.specs.Clauses.{Instanced, complement}
 use Rattle.calculus.specs.Conditions.{AcceptedExactlyIfAllowed, Allowed, Largest, LastGoes, LastPropagated}
-use Rattle.calculus.specs.FalseTools.{reached}
 use Rattle.calculus.specs.Reasons.{BackLevelLargest, ComplementNotIn, Condition, conditions}
 use Rattle.calculus.specs.Rules.{Answer, asks, backLevel, lastLiteral, literalInstance, otherInstances}
 use Rattle.calculus.specs.States.{Backtrack, Conflict, Decide, Factorize, Grow, Propagate, Resolve, Skip, State, Step, Unknown, conflictOf}
-use Rattle.calculus.specs.Trails.{Trail, background, foreground, largestLevel, levelOf, undefined}
+use Rattle.calculus.specs.Trails.{Trail, background, foreground, largestLevel, levelOf}
 use Rattle.calculus.proofs.Answers.{AllOk, all-rise, pass, passed}
 use Rattle.calculus.proofs.OnTrail.{complement-twice}
 use Rattle.calculus.proofs.Reasons.{Match, _also_, all, matched}

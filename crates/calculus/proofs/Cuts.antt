@@ -6,7 +6,6 @@ use mathlib.Core.Bool.{Bool, _||_, false, not, true}
 use Prim.Native.Nat.{_<_, _≤_}
 use native.Mathlib.Omega.{arith}
 use lib.Dec.{T, leb, leb→le, nleb→lt}
-use Rattle.basis.specs.Numbers.{whole}
 use Rattle.basis.specs.declared.Literal.{Literal}
 use Rattle.lists.proofs.Denials.{not-or, not-or-in}
 use Rattle.lists.proofs.Tests.{F→eq, Said, T→eq, fails, holds, said}
@@ -16,7 +15,7 @@ use Rattle.calculus.specs.Trails.{Entry, Trail, background, cut, decided
 use Rattle.calculus.proofs.Merged.{sameLiteral-refl}
 use Rattle.calculus.proofs.OnTrail.{complement-twice, not-on-in, not-on-out}
 
--- An entry that is neither the literal nor its complement does not tell its level.
+-- An entry that is neither the literal not-or-in its complement does not tell its level.
 level-later : (l : Literal) (e : Entry) (t : Trail) → T (not (isLiteral l e || isLiteral (complement l) e)) → levelOf l (e ∷ t) ≡ levelOf l t
 level-later l e t h = rw (F→eq (isLiteral l e || isLiteral (complement l) e) h)
 

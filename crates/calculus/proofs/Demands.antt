@@ -19,13 +19,13 @@ use Rattle.calculus.specs.Admission.{Admitted}
 use Rattle.calculus.specs.Clauses.{Clause, Instanced, ground, groundAtoms}
 use Rattle.calculus.specs.Demands.{Demand2, Demand3, EveryStateReached, Never17, Once, ReachedSound, RefusalNever17, Replay, Soundness}
 use Rattle.calculus.specs.Rules.{Answer, Judged, asks, backLevel, next, question}
-use Rattle.calculus.specs.Runs.{AcceptedRun, Run, over, replayed, restarted, then}
+use Rattle.calculus.specs.Runs.{AcceptedRun, Run, replayed, restarted}
 use Rattle.calculus.specs.States.{Backtrack, Conflict, Decide, Factorize, Grow, Propagate, Resolve, Skip, State, Step, Unknown, clauseAt, clauses, conflictOf}
 use Rattle.calculus.specs.Trails.{Entry, Origin, Trail, appendAtoms, atomOnTrail, atomsOf, background, cut, decided, decisions, foreground, isFalse, propagated}
 use Rattle.calculus.proofs.Answers.{acceptance, fault-given, refused-hands-back}
-use Rattle.calculus.proofs.Invariant.{Inv, Now, Stands, inv-step, possible-sub, refuted, step-undef}
+use Rattle.calculus.proofs.Invariant.{Inv, Now, Stands, inv-step, possible-sub, refuted, step-undefined}
 use Rattle.calculus.proofs.Levels.{cut-tail}
-use Rattle.calculus.proofs.Trails.{Built, StepOk, Tail, atomsBy, built-again, empty, group, grown, here, litBy, possible-none, there}
+use Rattle.calculus.proofs.Trails.{Built, StepOk, Tail, atomsBy, built-again, empty, group, grown, here, literalBy, possible-none, there}
 
 atoms-tail : {t u : Trail} {a : Atom} → Tail t u → List·Memᴰ a (atomsOf t) → List·Memᴰ a (atomsOf u)
 atoms-tail {a = a} (here e) m = subst (λ q. List·Memᴰ a (atomsOf q)) e m
@@ -35,7 +35,7 @@ atoms-tail {a = a} (there {e = e} {u = u} h) m = go e (atoms-tail h m)
     go (foreground l s) m = m
     go (background b) m = List·Memᴰ·tail m
 
--- The atoms of a standing conflict are possible together updated any cut of the trail
+-- The atoms of a standing conflict are possible together with any cut of the trail
 pub never-17 : {nums : Numbers} {arities : List ℕ} {cs input : List Clause} {n : ℕ} {t : Trail} {N : Instanced} → Stands nums arities cs input n t N → (i : ℕ) → Possible nums n (atomsOf (cut i t) ++ groundAtoms (N .instance) (N .clause .atoms))
 never-17 {t = t} {N = N} w i = possible-sub (λ a m. go a (List·Memᴰ·append-cases (atomsOf (cut i t)) m)) (w .possible)
   where
@@ -53,7 +53,7 @@ once-push (a ∷ az) t h = once-push az (cond (atomOnTrail a t) t (background a 
 
 pub built-once : {nums : Numbers} {cs : List Clause} {n : ℕ} {t : Trail} → Built nums cs n t → Once t
 built-once (empty e) = subst Once (sym e) tt
-built-once {nums} {cs} {n} (group {t = u} m b k e) = subst Once (sym e) (once-push (atomsBy cs m) (foreground (litBy cs m) m ∷ u) (step-undef nums cs n u m k, built-once b))
+built-once {nums} {cs} {n} (group {t = u} m b k e) = subst Once (sym e) (once-push (atomsBy cs m) (foreground (literalBy cs m) m ∷ u) (step-undefined nums cs n u m k, built-once b))
 
 atoms-from : (az : List Atom) (t : Trail) {a : Atom} → List·Memᴰ a (atomsOf (appendAtoms az t)) → List·Memᴰ a (atomsOf t) ⊎ List·Memᴰ a az
 atoms-from [] t m = inl m
@@ -73,7 +73,7 @@ built-possible {nums} {n = n} (empty e) = subst (λ t. Possible nums n (atomsOf 
 built-possible {nums} {cs} {n} {t} (group {t = u} m b k e) = subst (λ t. Possible nums n (atomsOf t)) (sym e) (go m k (built-possible b))
   where
     go : (m : Origin) → StepOk nums cs n u m → Possible nums n (atomsOf u) → Possible nums n (atomsOf (grown cs m u))
-    go (propagated c l τ) k p = possible-sub (λ a h. both a (atoms-from (groundAtoms τ (clauseAt cs c .atoms)) (foreground (litBy cs (propagated c l τ)) (propagated c l τ) ∷ u) h)) (k .1 .possible)
+    go (propagated c l τ) k p = possible-sub (λ a h. both a (atoms-from (groundAtoms τ (clauseAt cs c .atoms)) (foreground (literalBy cs (propagated c l τ)) (propagated c l τ) ∷ u) h)) (k .1 .possible)
       where
         both : (a : Atom) → List·Memᴰ a (atomsOf u) ⊎ List·Memᴰ a (groundAtoms τ (clauseAt cs c .atoms)) → List·Memᴰ a (atomsOf u ++ groundAtoms τ (clauseAt cs c .atoms))
         both a (inl h) = Memᴰ·append-left (groundAtoms τ (clauseAt cs c .atoms)) h
@@ -87,7 +87,7 @@ tail-once (there {e = background a} h) o = tail-once h (o .1)
 
 -- ---- runs
 
-inv-start : (nums : Numbers) (s : State) → Admitted s → Inv nums s
+pub inv-start : (nums : Numbers) (s : State) → Admitted s → Inv nums s
 inv-start nums s a = record {
   held = λ C m. let n = subst (List·Memᴰ C) e m in record { class = a .in-class C n; limited = a .limited C n; follows = λ I h. h C n };
   level = ap (λ (q : State). q .level) (a .new) ∙ sym (ap decisions t);

@@ -1,4 +1,4 @@
--- The instances of a reason, a resolvent and a factor.
+-- The instances of a reason, a resolvent and a factored conflict.
 use mathlib.Core.Path.{_∙_, _≡_, ap, ap₂, refl, subst, sym}
 use mathlib.Core.Logic.{_⊎_, inl, inr}
 use mathlib.Core.List.{List, List·Memᴰ, List·Memᴰ·append-cases, List·Memᴰ·cases-cons, List·Memᴰ·head, List·Memᴰ·not-nil, List·Memᴰ·tail, Memᴰ·cast, Memᴰ·map, Memᴰ·of-map, [], _++_, _∷_, map, map-append, map-map}
@@ -53,7 +53,7 @@ reasonLiterals-out τ g (suc i) (x ∷ xs) {m} h = go (λ k. reasonLiterals-out 
     go ih true h = List·Memᴰ·tail (ih h)
     go ih false h = sub ih (List·Memᴰ·cases-cons h)
 
--- the literal itself, at its new place
+-- The literal itself, at its new place
 reasonLiterals-get : (τ : List ℕ) (g : Literal) (i : ℕ) (ls : List Literal) → getD (reasonLiterals τ g i ls) (ownIndex τ g i ls) noLiteral ≡ getD ls i noLiteral
 reasonLiterals-get τ g i [] = refl
 reasonLiterals-get τ g zero (x ∷ xs) = refl
@@ -99,10 +99,10 @@ module _ (C : Clause) (i : ℕ) (τ : List ℕ) (n : ℕ) (lt : i < length (C .l
   unfolding g
   fit x y m = let (k, a, b, c) = ownPairs-out τ g L (C .literals) m in
       let z = pairUp-mem (arguments L) (arguments k) x y c in
-      (wf .args-in L (getD-mem (C .literals) i noLiteral lt) x (z .0), wf .args-in k a y (z .1), pairUp-back (under τ) (arguments L) (arguments k) (sym (ap (λ (q : Literal). arguments q) (sameLiteral→eq (ground τ k) g b))) x y c)
+      (wf .arguments-in L (getD-mem (C .literals) i noLiteral lt) x (z .0), wf .arguments-in k a y (z .1), pairUp-back (under τ) (arguments L) (arguments k) (sym (ap (λ (q : Literal). arguments q) (sameLiteral→eq (ground τ k) g b))) x y c)
 
   wf′ : Inside (C .variables) (C .atoms) (reasonLiterals τ g i (C .literals))
-  wf′ = record { p-in = wf .p-in; q-in = wf .q-in; args-in = λ l m. wf .args-in l (reasonLiterals-out τ g i (C .literals) m) }
+  wf′ = record { p-in = wf .p-in; q-in = wf .q-in; arguments-in = λ l m. wf .arguments-in l (reasonLiterals-out τ g i (C .literals) m) }
 
   pub reason-within : Inside (reason C i τ .of .clause .variables) (reason C i τ .of .clause .atoms) (reason C i τ .of .clause .literals)
   unfolding g reason merge
@@ -116,25 +116,25 @@ module _ (C : Clause) (i : ℕ) (τ : List ℕ) (n : ℕ) (lt : i < length (C .l
   unfolding g reason merge
   reason-atoms = merge-atoms (ownPairs τ g L (C .literals)) (C .variables) (C .atoms) (reasonLiterals τ g i (C .literals)) τ fit wf′
 
-  lits : map (ground (reason C i τ .of .instance)) (reason C i τ .of .clause .literals) ≡ map (ground τ) (reasonLiterals τ g i (C .literals))
+  reason-literals : map (ground (reason C i τ .of .instance)) (reason C i τ .of .clause .literals) ≡ map (ground τ) (reasonLiterals τ g i (C .literals))
   unfolding g reason merge
-  lits = merge-literals (ownPairs τ g L (C .literals)) (C .variables) (C .atoms) (reasonLiterals τ g i (C .literals)) τ fit wf′
+  reason-literals = merge-literals (ownPairs τ g L (C .literals)) (C .variables) (C .atoms) (reasonLiterals τ g i (C .literals)) τ fit wf′
 
   pub reason-own : ground (reason C i τ .of .instance) (getD (reason C i τ .of .clause .literals) (reason C i τ .own) noLiteral) ≡ ground τ (getD (C .literals) i noLiteral)
-  unfolding lits g
+  unfolding reason-literals g
   reason-own =
       sym (List·getD-map (ground (reason C i τ .of .instance)) (reason C i τ .of .clause .literals) (reason C i τ .own) noLiteral)
-      ∙ ap (λ l. getD l (reason C i τ .own) noLiteral) lits
+      ∙ ap (λ l. getD l (reason C i τ .own) noLiteral) reason-literals
       ∙ List·getD-map (ground τ) (reasonLiterals τ g i (C .literals)) (reason C i τ .own) noLiteral
       ∙ ap (ground τ) (reasonLiterals-get τ g i (C .literals))
 
-  -- each other literal of the reason has the instance of a literal of the clause, another than L's
+  -- Each other literal of the reason has the instance of a literal of the clause, another than L's
   pub reason-rest : {k : Literal} → List·Memᴰ k (map (ground (reason C i τ .of .instance)) (without (reason C i τ .own) (reason C i τ .of .clause .literals))) → (m : Literal) × List·Memᴰ m (C .literals) × T (not (sameLiteral (ground τ m) (ground τ (getD (C .literals) i noLiteral)))) × (ground τ m ≡ k)
-  unfolding lits g
+  unfolding reason-literals g
   reason-rest {k} h = go (Memᴰ·of-map (ground τ) (without (reason C i τ .own) (reasonLiterals τ g i (C .literals))) (subst (List·Memᴰ k) e h))
     where
       e : map (ground (reason C i τ .of .instance)) (without (reason C i τ .own) (reason C i τ .of .clause .literals)) ≡ map (ground τ) (without (reason C i τ .own) (reasonLiterals τ g i (C .literals)))
-      e = map-without (ground (reason C i τ .of .instance)) (reason C i τ .own) (reason C i τ .of .clause .literals) ∙ ap (without (reason C i τ .own)) lits ∙ sym (map-without (ground τ) (reason C i τ .own) (reasonLiterals τ g i (C .literals)))
+      e = map-without (ground (reason C i τ .of .instance)) (reason C i τ .own) (reason C i τ .of .clause .literals) ∙ ap (without (reason C i τ .own)) reason-literals ∙ sym (map-without (ground τ) (reason C i τ .own) (reasonLiterals τ g i (C .literals)))
 
       go : (m : Literal) × List·Memᴰ m (without (reason C i τ .own) (reasonLiterals τ g i (C .literals))) × (ground τ m ≡ k) → (m : Literal) × List·Memᴰ m (C .literals) × T (not (sameLiteral (ground τ m) (ground τ (getD (C .literals) i noLiteral)))) × (ground τ m ≡ k)
       go (m, a, b) = let r = reasonLiterals-rest τ g i (C .literals) a lt in (m, r .0, r .1, b)
@@ -156,10 +156,10 @@ no-argument x m = first (List·Memᴰ·cases-cons m)
     first (inl e) = e
     first (inr n) = second (List·Memᴰ·cases-cons n)
 
-args-at : (v : ℕ) (ls : List Literal) → ((l : Literal) → List·Memᴰ l ls → (x : ℕ) → List·Memᴰ x (arguments l) → x ≤ v) → (i x : ℕ) → List·Memᴰ x (arguments (getD ls i noLiteral)) → x ≤ v
-args-at v [] h i x m = omega (arith, no-argument x m)
-args-at v (l ∷ ls) h zero x m = h l (List·Memᴰ·head refl) x m
-args-at v (l ∷ ls) h (suc i) x m = args-at v ls (λ k n. h k (List·Memᴰ·tail n)) i x m
+arguments-at : (v : ℕ) (ls : List Literal) → ((l : Literal) → List·Memᴰ l ls → (x : ℕ) → List·Memᴰ x (arguments l) → x ≤ v) → (i x : ℕ) → List·Memᴰ x (arguments (getD ls i noLiteral)) → x ≤ v
+arguments-at v [] h i x m = omega (arith, no-argument x m)
+arguments-at v (l ∷ ls) h zero x m = h l (List·Memᴰ·head refl) x m
+arguments-at v (l ∷ ls) h (suc i) x m = arguments-at v ls (λ k n. h k (List·Memᴰ·tail n)) i x m
 
 pub under-left : (A B : List ℕ) (x : ℕ) → x ≤ length A → under (A ++ B) x ≡ under A x
 under-left A B zero h = refl
@@ -222,18 +222,18 @@ module _ (N : Instanced) (j : ℕ) (R : Instanced) (i n : ℕ)
   unfolding τ′ v
   right x = subst (λ k. under (N .instance ++ R .instance) (apart k x) ≡ under (R .instance) x) (sN .size) (under-right (N .instance) (R .instance) x)
 
-  withinLimits : Fits (v + w) τ′ es
+  together-fits : Fits (v + w) τ′ es
   unfolding es w
-  withinLimits x y m =
+  together-fits x y m =
       let z = pairUp-mem (arguments K) (map (apart v) (arguments M)) x y m in
-      let a : x ≤ v = args-at v (N .clause .literals) (wN .args-in) j x (z .0) in
+      let a : x ≤ v = arguments-at v (N .clause .literals) (wN .arguments-in) j x (z .0) in
       (omega arith, inr-le y (z .1), pairUp-back (under τ′) (arguments K) (map (apart v) (arguments M)) agree x y m)
     where
       inr-le : (y : ℕ) → List·Memᴰ y (map (apart v) (arguments M)) → y ≤ v + w
-      inr-le y m = let (x, a, b) = Memᴰ·of-map (apart v) (arguments M) m in subst (λ k. k ≤ v + w) b (apart-le v w x (args-at w (R .clause .literals) (wR .args-in) i x a))
+      inr-le y m = let (x, a, b) = Memᴰ·of-map (apart v) (arguments M) m in subst (λ k. k ≤ v + w) b (apart-le v w x (arguments-at w (R .clause .literals) (wR .arguments-in) i x a))
 
       agree : map (under τ′) (arguments K) ≡ map (under τ′) (map (apart v) (arguments M))
-      agree = map-same (under τ′) (under (N .instance)) (arguments K) (λ x m. left x (args-at v (N .clause .literals) (wN .args-in) j x m))
+      agree = map-same (under τ′) (under (N .instance)) (arguments K) (λ x m. left x (arguments-at v (N .clause .literals) (wN .arguments-in) j x m))
           ∙ ap (λ (l : Literal). arguments l) meet
           ∙ sym (map-map (under τ′) (apart v) (arguments M) ∙ map-same (λ x. under τ′ (apart v x)) (under (R .instance)) (arguments M) (λ x m. right x))
 
@@ -242,7 +242,7 @@ module _ (N : Instanced) (j : ℕ) (R : Instanced) (i n : ℕ)
   wf″ = record {
     p-in = λ a m. p-go a (List·Memᴰ·append-cases (N .clause .atoms) m);
     q-in = λ a m. q-go a (List·Memᴰ·append-cases (N .clause .atoms) m);
-    args-in = λ l m x k. l-go l x k (List·Memᴰ·append-cases (without j (N .clause .literals)) m);
+    arguments-in = λ l m x k. l-go l x k (List·Memᴰ·append-cases (without j (N .clause .literals)) m);
   }
     where
       p-go : (a : Atom) → List·Memᴰ a (N .clause .atoms) ⊎ List·Memᴰ a (map (renameAtom (apart v)) (R .clause .atoms)) → a .p ≤ v + w
@@ -254,23 +254,23 @@ module _ (N : Instanced) (j : ℕ) (R : Instanced) (i n : ℕ)
       q-go a (inr m) = let (b, c, e) = Memᴰ·of-map (renameAtom (apart v)) (R .clause .atoms) m in subst (λ (k : Atom). k .q ≤ v + w) e (apart-le v w (b .q) (wR .q-in b c))
 
       l-go : (l : Literal) (x : ℕ) → List·Memᴰ x (arguments l) → List·Memᴰ l (without j (N .clause .literals)) ⊎ List·Memᴰ l (map (renameLiteral (apart v)) (without i (R .clause .literals))) → x ≤ v + w
-      l-go l x k (inl m) = omega (arith, wN .args-in l (without-out j (N .clause .literals) m) x k)
+      l-go l x k (inl m) = omega (arith, wN .arguments-in l (without-out j (N .clause .literals) m) x k)
       l-go l x k (inr m) =
           let (b, c, e) = Memᴰ·of-map (renameLiteral (apart v)) (without i (R .clause .literals)) m in
           let (y, d, f) = Memᴰ·of-map (apart v) (arguments b) (subst (λ (q : Literal). List·Memᴰ x (arguments q)) (sym e) k) in
-          subst (λ q. q ≤ v + w) f (apart-le v w y (wR .args-in b (without-out i (R .clause .literals) c) y d))
+          subst (λ q. q ≤ v + w) f (apart-le v w y (wR .arguments-in b (without-out i (R .clause .literals) c) y d))
 
   pub resolvent-within : Inside (resolvent N j R i .clause .variables) (resolvent N j R i .clause .atoms) (resolvent N j R i .clause .literals)
   unfolding es az ls w τ′ resolvent merge
-  resolvent-within = merge-within es (v + w) az ls τ′ withinLimits wf″
+  resolvent-within = merge-within es (v + w) az ls τ′ together-fits wf″
 
   pub resolvent-sized : Sized n (resolvent N j R i .clause .variables) (resolvent N j R i .instance)
   unfolding es az ls w τ′ resolvent merge
-  resolvent-sized = merge-sized es (v + w) az ls τ′ withinLimits wf″ n (sized-append n v w (N .instance) (R .instance) sN sR)
+  resolvent-sized = merge-sized es (v + w) az ls τ′ together-fits wf″ n (sized-append n v w (N .instance) (R .instance) sN sR)
 
   pub resolvent-atoms : {a : Atom} → List·Memᴰ a (groundAtoms (resolvent N j R i .instance) (resolvent N j R i .clause .atoms)) → List·Memᴰ a (groundAtoms (N .instance) (N .clause .atoms)) ⊎ List·Memᴰ a (groundAtoms (R .instance) (R .clause .atoms))
   unfolding es az ls w τ′ merge resolvent
-  resolvent-atoms {a} m = let (b, c, e) = Memᴰ·of-map (renameAtom (under τ′)) az (merge-atoms es (v + w) az ls τ′ withinLimits wf″ m) in go b e (List·Memᴰ·append-cases (N .clause .atoms) c)
+  resolvent-atoms {a} m = let (b, c, e) = Memᴰ·of-map (renameAtom (under τ′)) az (merge-atoms es (v + w) az ls τ′ together-fits wf″ m) in go b e (List·Memᴰ·append-cases (N .clause .atoms) c)
     where
       go : (b : Atom) → renameAtom (under τ′) b ≡ a → List·Memᴰ b (N .clause .atoms) ⊎ List·Memᴰ b (map (renameAtom (apart v)) (R .clause .atoms)) → List·Memᴰ a (groundAtoms (N .instance) (N .clause .atoms)) ⊎ List·Memᴰ a (groundAtoms (R .instance) (R .clause .atoms))
       go b e (inl m) = let e₁ = left (b .p) (wN .p-in b m) in let e₂ = left (b .q) (wN .q-in b m) in
@@ -280,14 +280,14 @@ module _ (N : Instanced) (j : ℕ) (R : Instanced) (i n : ℕ)
 
   pub resolvent-literals : map (ground (resolvent N j R i .instance)) (resolvent N j R i .clause .literals) ≡ map (ground (N .instance)) (without j (N .clause .literals)) ++ map (ground (R .instance)) (without i (R .clause .literals))
   unfolding es az ls w τ′ resolvent merge
-  resolvent-literals = merge-literals es (v + w) az ls τ′ withinLimits wf″
+  resolvent-literals = merge-literals es (v + w) az ls τ′ together-fits wf″
       ∙ map-append (ground τ′) (without j (N .clause .literals)) (map (renameLiteral (apart v)) (without i (R .clause .literals)))
       ∙ ap₂ (λ a b. a ++ b)
       (map-same (ground τ′) (ground (N .instance)) (without j (N .clause .literals)) one)
       (map-map (ground τ′) (renameLiteral (apart v)) (without i (R .clause .literals)) ∙ map-same (λ l. ground τ′ (renameLiteral (apart v) l)) (ground (R .instance)) (without i (R .clause .literals)) two)
     where
       one : (l : Literal) → List·Memᴰ l (without j (N .clause .literals)) → ground τ′ l ≡ ground (N .instance) l
-      one l m = renameLiteral-same (under τ′) (under (N .instance)) l (λ x k. left x (wN .args-in l (without-out j (N .clause .literals) m) x k))
+      one l m = renameLiteral-same (under τ′) (under (N .instance)) l (λ x k. left x (wN .arguments-in l (without-out j (N .clause .literals) m) x k))
 
       two : (l : Literal) → List·Memᴰ l (without i (R .clause .literals)) → ground τ′ (renameLiteral (apart v) l) ≡ ground (R .instance) l
       two l m = renameLiteral-same (λ x. under τ′ (apart v x)) (under (R .instance)) l (λ x k. right x)
@@ -295,32 +295,32 @@ module _ (N : Instanced) (j : ℕ) (R : Instanced) (i n : ℕ)
 module _ (N : Instanced) (i j n : ℕ)
     (wN : Inside (N .clause .variables) (N .clause .atoms) (N .clause .literals)) (sN : Sized n (N .clause .variables) (N .instance))
     (meet : ground (N .instance) (getD (N .clause .literals) (min i j) noLiteral) ≡ ground (N .instance) (getD (N .clause .literals) (max i j) noLiteral)) where
-  private-es : List (ℕ × ℕ)
-  private-es = pairUp (arguments (getD (N .clause .literals) (min i j) noLiteral)) (arguments (getD (N .clause .literals) (max i j) noLiteral))
+  met : List (ℕ × ℕ)
+  met = pairUp (arguments (getD (N .clause .literals) (min i j) noLiteral)) (arguments (getD (N .clause .literals) (max i j) noLiteral))
 
-  f-fits : Fits (N .clause .variables) (N .instance) private-es
-  unfolding private-es
-  f-fits x y m =
+  met-fits : Fits (N .clause .variables) (N .instance) met
+  unfolding met
+  met-fits x y m =
       let A = arguments (getD (N .clause .literals) (min i j) noLiteral) in
       let B = arguments (getD (N .clause .literals) (max i j) noLiteral) in
       let z = pairUp-mem A B x y m in
-      (args-at (N .clause .variables) (N .clause .literals) (wN .args-in) (min i j) x (z .0), args-at (N .clause .variables) (N .clause .literals) (wN .args-in) (max i j) y (z .1), pairUp-back (under (N .instance)) A B (ap (λ (l : Literal). arguments l) meet) x y m)
+      (arguments-at (N .clause .variables) (N .clause .literals) (wN .arguments-in) (min i j) x (z .0), arguments-at (N .clause .variables) (N .clause .literals) (wN .arguments-in) (max i j) y (z .1), pairUp-back (under (N .instance)) A B (ap (λ (l : Literal). arguments l) meet) x y m)
 
-  f-wf : Inside (N .clause .variables) (N .clause .atoms) (without (max i j) (N .clause .literals))
-  f-wf = record { p-in = wN .p-in; q-in = wN .q-in; args-in = λ l m. wN .args-in l (without-out (max i j) (N .clause .literals) m) }
+  fewer-placed : Inside (N .clause .variables) (N .clause .atoms) (without (max i j) (N .clause .literals))
+  fewer-placed = record { p-in = wN .p-in; q-in = wN .q-in; arguments-in = λ l m. wN .arguments-in l (without-out (max i j) (N .clause .literals) m) }
 
   pub factored-within : Inside (factored N i j .clause .variables) (factored N i j .clause .atoms) (factored N i j .clause .literals)
-  unfolding private-es factored merge
-  factored-within = merge-within private-es (N .clause .variables) (N .clause .atoms) (without (max i j) (N .clause .literals)) (N .instance) f-fits f-wf
+  unfolding met factored merge
+  factored-within = merge-within met (N .clause .variables) (N .clause .atoms) (without (max i j) (N .clause .literals)) (N .instance) met-fits fewer-placed
 
   pub factored-sized : Sized n (factored N i j .clause .variables) (factored N i j .instance)
-  unfolding private-es factored merge
-  factored-sized = merge-sized private-es (N .clause .variables) (N .clause .atoms) (without (max i j) (N .clause .literals)) (N .instance) f-fits f-wf n sN
+  unfolding met factored merge
+  factored-sized = merge-sized met (N .clause .variables) (N .clause .atoms) (without (max i j) (N .clause .literals)) (N .instance) met-fits fewer-placed n sN
 
   pub factored-atoms : {a : Atom} → List·Memᴰ a (groundAtoms (factored N i j .instance) (factored N i j .clause .atoms)) → List·Memᴰ a (groundAtoms (N .instance) (N .clause .atoms))
-  unfolding private-es factored merge
-  factored-atoms = merge-atoms private-es (N .clause .variables) (N .clause .atoms) (without (max i j) (N .clause .literals)) (N .instance) f-fits f-wf
+  unfolding met factored merge
+  factored-atoms = merge-atoms met (N .clause .variables) (N .clause .atoms) (without (max i j) (N .clause .literals)) (N .instance) met-fits fewer-placed
 
   pub factored-literals : map (ground (factored N i j .instance)) (factored N i j .clause .literals) ≡ map (ground (N .instance)) (without (max i j) (N .clause .literals))
-  unfolding private-es factored merge
-  factored-literals = merge-literals private-es (N .clause .variables) (N .clause .atoms) (without (max i j) (N .clause .literals)) (N .instance) f-fits f-wf
+  unfolding met factored merge
+  factored-literals = merge-literals met (N .clause .variables) (N .clause .atoms) (without (max i j) (N .clause .literals)) (N .instance) met-fits fewer-placed

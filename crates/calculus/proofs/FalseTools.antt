@@ -13,19 +13,17 @@ use Rattle.basis.specs.Refusals.{accepted}
 use Rattle.basis.specs.declared.Literal.{Literal}
 use Rattle.lists.proofs.Tests.{Said, fails, holds, not-eqb, said}
 use Rattle.calculus.specs.Admission.{Admitted, fresh}
-use Rattle.calculus.specs.Admitting.{admitted}
 use Rattle.calculus.specs.Clauses.{Clause, Instanced, ground, groundAtoms}
 use Rattle.calculus.specs.Conditions.{Allowed, literalAt}
 use Rattle.calculus.specs.FalseTools.{AcceptsAll, ByTheRules, Demand2ExcludesFive, Demand3AloneAdmits, ExcludesFive, Invents, MeetsDemand2, OwnReplay, Refutation, Report, ThenNods, Tool, nodder, nodding, reached, refuser, workOnce}
 use Rattle.calculus.specs.Rules.{Answer, Judged, answer, isOne, next}
 use Rattle.calculus.specs.Runs.{restarted, stepsOf}
-use Rattle.calculus.specs.States.{Backtrack, Conflict, Decide, Factorize, Grow, Propagate, Resolve, Skip, State, Step, Unknown, clauseAt, clauses, stands}
+use Rattle.calculus.specs.States.{Backtrack, Conflict, Decide, Factorize, Grow, Propagate, Resolve, Skip, State, Step, Unknown, clauseAt, clauses}
 use Rattle.calculus.specs.Trails.{foreground, propagated}
 use Rattle.calculus.proofs.Admitting.{admitted-exactly}
 use Rattle.calculus.proofs.Answers.{accepted-leads-on, answer-unique, refused-hands-back}
 use Rattle.calculus.proofs.Certificates.{judged-yes}
 use Rattle.calculus.proofs.Conditions.{accepted-exactly-if-allowed}
-use Rattle.calculus.proofs.Invariant.{refuted}
 use Rattle.calculus.proofs.Trails.{steps-push}
 
 -- ---- one clause P ∨ Q without arguments, decided twice

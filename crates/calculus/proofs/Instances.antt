@@ -1,11 +1,11 @@
--- Merging keeps the instance.
+-- Merging keeps the instances of literals and atoms, and the places within the variables.
 use mathlib.Core.Path.{_∙_, _≡_, ap, refl, subst, sym}
 use mathlib.Core.Logic.{_⊎_, inl, inr}
 use mathlib.Core.List.{List, List·Memᴰ, List·Memᴰ·head, List·Memᴰ·tail, Memᴰ·cast, Memᴰ·map, Memᴰ·of-map, [], _∷_, map, map-map}
 use mathlib.Core.Bool.{_||_}
 use Prim.Native.Nat.{_≤_, max, suc, zero, ℕ}
 use native.Mathlib.Omega.{arith}
-use lib.Dec.{T, eqb, eqb-refl, eqb·suc-zero, eqb→eq, leb, leb→le, nleb→lt}
+use lib.Dec.{T, eqb, eqb-refl, eqb·suc-zero, eqb→eq, leb}
 use lib.ListN.{getD, length, length-map}
 use Rattle.basis.specs.declared.Atom.{Atom}
 use Rattle.basis.specs.declared.Literal.{Literal}
@@ -55,7 +55,7 @@ close-get τ ks (suc y) (inl e) = absurd (omega arith)
 close-get τ ks (suc y) (inr m) = rw (eqb·suc-zero y) (indexOf-get (under τ) (suc y) ks m)
 
 module _ (v : ℕ) (τ : List ℕ) where
-  -- the pairs are of variables up to v that τ sends to one constant
+  -- The pairs are of variables up to v that τ sends to one constant
   abbrev pub Fits : List (ℕ × ℕ) → Type 0
   Fits es = (x y : ℕ) → List·Memᴰ (x, y) es → (x ≤ v) × (y ≤ v) × (under τ x ≡ under τ y)
 
@@ -70,13 +70,13 @@ module _ (v : ℕ) (τ : List ℕ) where
       same : under τ (under σ (p .0)) ≡ under τ (under σ (p .1))
       same = h (p .0) (q .0) ∙ q .2 ∙ sym (h (p .1) (q .1))
 
--- the places of the atoms and the literals are at most v
+-- The places of the atoms and the literals are at most v
 pub record Inside (v : ℕ) (az : List Atom) (ls : List Literal) : Type 0 where
   pub p-in : (a : Atom) → List·Memᴰ a az → a .p ≤ v
   pub q-in : (a : Atom) → List·Memᴰ a az → a .q ≤ v
-  pub args-in : (l : Literal) → List·Memᴰ l ls → (x : ℕ) → List·Memᴰ x (arguments l) → x ≤ v
+  pub arguments-in : (l : Literal) → List·Memᴰ l ls → (x : ℕ) → List·Memᴰ x (arguments l) → x ≤ v
 
--- the constants of an instance
+-- The constants of an instance
 pub record Sized (n v : ℕ) (τ : List ℕ) : Type 0 where
   pub size : length τ ≡ v
   pub range : (c : ℕ) → List·Memᴰ c τ → T (between 1 n c)
@@ -113,7 +113,7 @@ module _ (es : List (ℕ × ℕ)) (v : ℕ) (az : List Atom) (ls : List Literal)
   kept zero h t = inl refl
   kept (suc y) h t = inr (keepIf-in (occursIn az₁ ls₁) (upFrom 1 v) (upFrom-mem 1 v (suc y) (omega arith) (omega arith)) t)
 
-  -- a variable that stays in use has its constant
+  -- A variable that stays in use has its constant
   back-under : (x : ℕ) → x ≤ v → T (occursIn az₁ ls₁ (under σ x)) → under (M .instance) (indexOf (under σ x) (zero ∷ ks)) ≡ under τ x
   unfolding ks M merge closeUp
   back-under x h t = close-get τ ks (under σ x) (kept (under σ x) (small x h) t) ∙ joins-fix v τ es (upFrom 1 v) fit (λ y k. ap (under τ) (upFrom-under v y k)) x h
@@ -128,9 +128,9 @@ module _ (es : List (ℕ × ℕ)) (v : ℕ) (az : List Atom) (ls : List Literal)
   used-q a m = or-l (anyOf (λ b. eqb (under σ (a .q)) (b .p) || eqb (under σ (a .q)) (b .q)) az₁) (anyOf (λ l. anyOf (eqb (under σ (a .q))) (arguments l)) ls₁)
       (anyOf-in (λ b. eqb (under σ (a .q)) (b .p) || eqb (under σ (a .q)) (b .q)) az₁ (distinct-in (map (renameAtom (under σ)) az) (Memᴰ·map (renameAtom (under σ)) m)) (or-r (eqb (under σ (a .q)) (under σ (a .p))) (eqb (under σ (a .q)) (under σ (a .q))) (eqb-refl (under σ (a .q)))))
 
-  used-arg : (l : Literal) → List·Memᴰ l ls → (x : ℕ) → List·Memᴰ x (arguments l) → T (occursIn az₁ ls₁ (under σ x))
+  used-argument : (l : Literal) → List·Memᴰ l ls → (x : ℕ) → List·Memᴰ x (arguments l) → T (occursIn az₁ ls₁ (under σ x))
   unfolding ls₁
-  used-arg l m x n = or-r (anyOf (λ b. eqb (under σ x) (b .p) || eqb (under σ x) (b .q)) az₁) (anyOf (λ l. anyOf (eqb (under σ x)) (arguments l)) ls₁)
+  used-argument l m x n = or-r (anyOf (λ b. eqb (under σ x) (b .p) || eqb (under σ x) (b .q)) az₁) (anyOf (λ l. anyOf (eqb (under σ x)) (arguments l)) ls₁)
       (anyOf-in (λ l. anyOf (eqb (under σ x)) (arguments l)) ls₁ (Memᴰ·map (renameLiteral (under σ)) m) (anyOf-in (eqb (under σ x)) (map (under σ) (arguments l)) (Memᴰ·map (under σ) n) (eqb-refl (under σ x))))
 
   pub merge-literals : map (ground (merge es v az ls τ .instance)) (merge es v az ls τ .clause .literals) ≡ map (ground τ) ls
@@ -141,7 +141,7 @@ module _ (es : List (ℕ × ℕ)) (v : ℕ) (az : List Atom) (ls : List Literal)
       r x = indexOf x (zero ∷ ks)
 
       one : (l : Literal) → List·Memᴰ l ls → ground (M .instance) (renameLiteral r (renameLiteral (under σ) l)) ≡ ground τ l
-      one l m = renameLiteral-same (λ x. under (M .instance) (r (under σ x))) (under τ) l (λ x n. back-under x (wf .args-in l m x n) (used-arg l m x n))
+      one l m = renameLiteral-same (λ x. under (M .instance) (r (under σ x))) (under τ) l (λ x n. back-under x (wf .arguments-in l m x n) (used-argument l m x n))
 
   pub merge-atoms : {a : Atom} → List·Memᴰ a (map (renameAtom (under (merge es v az ls τ .instance))) (merge es v az ls τ .clause .atoms)) → List·Memᴰ a (map (renameAtom (under τ)) az)
   unfolding M ks merge closeUp
@@ -174,7 +174,7 @@ module _ (es : List (ℕ × ℕ)) (v : ℕ) (az : List Atom) (ls : List Literal)
           let b = upFrom-out 1 v k (keepIf-out (occursIn az₁ ls₁) (upFrom 1 v) m) in
           subst (λ x. T (between 1 n x)) e (under-range n v τ z k (b .0) (omega (arith, b .1)))
 
-  -- a variable in use has its number among the new ones
+  -- A variable in use has its number among the new ones
   renamed : (y : ℕ) → (y ≡ zero) ⊎ List·Memᴰ y ks → indexOf y (zero ∷ ks) ≤ length ks
   unfolding ks
   renamed zero c = omega arith
@@ -183,7 +183,7 @@ module _ (es : List (ℕ × ℕ)) (v : ℕ) (az : List Atom) (ls : List Literal)
 
   pub merge-within : Inside (merge es v az ls τ .clause .variables) (merge es v az ls τ .clause .atoms) (merge es v az ls τ .clause .literals)
   unfolding M ks merge closeUp
-  merge-within = record { p-in = λ a m. p-go a (Memᴰ·of-map (renameAtom r) az₁ m); q-in = λ a m. q-go a (Memᴰ·of-map (renameAtom r) az₁ m); args-in = λ l m x n. l-go l x n (Memᴰ·of-map (renameLiteral r) ls₁ m) }
+  merge-within = record { p-in = λ a m. p-go a (Memᴰ·of-map (renameAtom r) az₁ m); q-in = λ a m. q-go a (Memᴰ·of-map (renameAtom r) az₁ m); arguments-in = λ l m x n. l-go l x n (Memᴰ·of-map (renameLiteral r) ls₁ m) }
     where
       r : ℕ → ℕ
       r x = indexOf x (zero ∷ ks)
@@ -204,7 +204,7 @@ module _ (es : List (ℕ × ℕ)) (v : ℕ) (az : List Atom) (ls : List Literal)
 
       arg : (k : Literal) → List·Memᴰ k ls → (x : ℕ) → (y : ℕ) × List·Memᴰ y (map (under σ) (arguments k)) × (r y ≡ x) → x ≤ length ks
       arg k m x (y, n, e) = let (w, o, q) = Memᴰ·of-map (under σ) (arguments k) n in
-          subst (λ u. u ≤ length ks) (ap r q ∙ e) (in-place w (wf .args-in k m w o) (used-arg k m w o))
+          subst (λ u. u ≤ length ks) (ap r q ∙ e) (in-place w (wf .arguments-in k m w o) (used-argument k m w o))
 
       l-go : (l : Literal) (x : ℕ) → List·Memᴰ x (arguments l) → (c : Literal) × List·Memᴰ c ls₁ × (renameLiteral r c ≡ l) → x ≤ length ks
       l-go l x n (c, m, e) = let (k, o, q) = Memᴰ·of-map (renameLiteral (under σ)) ls m in

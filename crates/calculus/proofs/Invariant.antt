@@ -13,10 +13,10 @@ use Rattle.basis.specs.Limits.{mostVariables}
 use Rattle.basis.specs.Numbers.{Numbers}
 use Rattle.basis.specs.declared.Atom.{Atom}
 use Rattle.basis.specs.declared.Literal.{Literal}
+use Rattle.lists.proofs.Denials.{not-or, not-or-in, or-second}
 use Rattle.lists.proofs.Members.{allOf-in, allOf-out, without-cases, without-out}
-use Rattle.lists.proofs.Tests.{Said, and-i, and-l, and-r, fails, holds, said}
+use Rattle.lists.proofs.Tests.{Said, and-i, and-l, and-r, fails, holds, or-either, or-r, said}
 use Rattle.lists.specs.Lists.{without}
-use Rattle.calculus.specs.Answers.{rising}
 use Rattle.calculus.specs.Checks.{between}
 use Rattle.calculus.specs.Class.{InClass, Limited}
 use Rattle.calculus.specs.Clauses.{Clause, Instanced, complement, ground, groundAtoms, noLiteral, renameAtom, sameLiteral, under}
@@ -29,9 +29,10 @@ use Rattle.calculus.proofs.Answers.{Accepted, AllOk}
 use Rattle.calculus.proofs.Class.{factored-class, factored-limited, limited-of, placed, reason-class, reason-own-lt, resolvent-class}
 use Rattle.calculus.proofs.Derived.{factored-atoms, factored-literals, factored-sized, reason-atoms, reason-own, reason-rest, reason-sized, reason-within, resolvent-atoms, resolvent-literals, resolvent-sized}
 use Rattle.calculus.proofs.Instances.{Inside, Sized}
-use Rattle.calculus.proofs.Levels.{CutAt, Found, alike-comp, clause-keep, clause-mem, clause-new, complement-complement, cut-at, cut-false, cut-inside, found, inst-sized, level-le, lowered-decs, max-level, min-max, nor, nor-l, nor-r, off-tail, ok-more, ok-new, or-either, or-right, or-skip, pred-lt, sized-inst, skip-false, snoc, tail-shorter, tail-trans}
+use Rattle.calculus.proofs.Levels.{CutAt, Found, alike-complement, clause-held, clause-keep, clause-new, cut-at, cut-false, cut-inside, found, instance-sized, level-at-most, level-le, min-max, number-below, off-tail, ok-more, ok-new, sized-instance, skip-false, skip-lowers-level, snoc, tail-shorter, tail-trans}
 use Rattle.calculus.proofs.Merged.{sameLiteral-refl, sameLiteral→eq}
-use Rattle.calculus.proofs.Trails.{Below, Built, DecOk, PropOk, StepOk, Tail, below, decisions-push, empty, group, grown, here, litBy}
+use Rattle.calculus.proofs.OnTrail.{complement-twice}
+use Rattle.calculus.proofs.Trails.{Below, Built, DecOk, PropOk, StepOk, Tail, below, decisions-push, empty, group, grown, here, literalBy}
 use Rattle.calculus.proofs.Truths.{alike, factored-true, reason-true, resolvent-true}
 
 -- What every clause held has: it is of the class, within the limits, and true wherever the input is.
@@ -83,14 +84,14 @@ stood {nums} s none w t = absurd t
 stood {nums} s (some N) w t = w
 
 -- ---- Propagate, Decide, Conflict, Grow
-inv-propagate : {nums : Numbers} (s : State) (c l : ℕ) (τ : List ℕ) → Inv nums s → Accepted nums s (Propagate c l τ) (next s (Propagate c l τ)) → Inv nums (next s (Propagate c l τ))
-inv-propagate {nums} s c l τ v a = record {
+propagate-keeps : {nums : Numbers} (s : State) (c l : ℕ) (τ : List ℕ) → Inv nums s → Accepted nums s (Propagate c l τ) (next s (Propagate c l τ)) → Inv nums (next s (Propagate c l τ))
+propagate-keeps {nums} s c l τ v a = record {
   held = v .held;
   level = v .level ∙ sym (decisions-push (groundAtoms τ (C .atoms)) (foreground (ground τ (getD (C .literals) (l - 1) noLiteral)) (propagated c l τ) ∷ s .trail));
   now = record {
     lower = group (propagated c l τ) (free s (s .conflict) (v .now) (k .1 .0)) (
       and-l (clauseExists (clauses s) c) (literalExists C l && instanceFits (s .constants) C τ) (k .1 .1 .0),
-      record { short = k .0; named = and-r (clauseExists (clauses s) c) (literalExists C l && instanceFits (s .constants) C τ) (k .1 .1 .0); undefd = k .1 .1 .1 .0; others = k .1 .1 .1 .1 .0; possible = a .decides .0 (k .1 .1 .1 .1 .1 .0); room = k .1 .1 .1 .1 .1 .1 .0 },
+      record { short = k .0; named = and-r (clauseExists (clauses s) c) (literalExists C l && instanceFits (s .constants) C τ) (k .1 .1 .0); undefined-yet = k .1 .1 .1 .0; others = k .1 .1 .1 .1 .0; possible = a .decides .0 (k .1 .1 .1 .1 .1 .0); room = k .1 .1 .1 .1 .1 .1 .0 },
     ) refl;
   };
 }
@@ -101,14 +102,14 @@ inv-propagate {nums} s c l τ v a = record {
     k : AllOk (asks (a .possible) s (Propagate c l τ))
     k = a .checks
 
-inv-decide : {nums : Numbers} (s : State) (c l g : ℕ) (τ : List ℕ) → Inv nums s → Accepted nums s (Decide c l g τ) (next s (Decide c l g τ)) → Inv nums (next s (Decide c l g τ))
-inv-decide {nums} s c l g τ v a = record {
+decide-keeps : {nums : Numbers} (s : State) (c l g : ℕ) (τ : List ℕ) → Inv nums s → Accepted nums s (Decide c l g τ) (next s (Decide c l g τ)) → Inv nums (next s (Decide c l g τ))
+decide-keeps {nums} s c l g τ v a = record {
   held = v .held;
   level = ap suc (v .level);
   now = record {
     lower = group (decided c l (isOne g) τ) (free s (s .conflict) (v .now) (k .1 .1 .0)) (
       and-l (clauseExists (clauses s) c) (literalExists C l && instanceFits (s .constants) C τ) (k .1 .1 .1 .0),
-      record { short = k .0; named = and-r (clauseExists (clauses s) c) (literalExists C l && instanceFits (s .constants) C τ) (k .1 .1 .1 .0); undefd = k .1 .1 .1 .1 .0; room = k .1 .1 .1 .1 .1 .0 },
+      record { short = k .0; named = and-r (clauseExists (clauses s) c) (literalExists C l && instanceFits (s .constants) C τ) (k .1 .1 .1 .0); undefined-yet = k .1 .1 .1 .1 .0; room = k .1 .1 .1 .1 .1 .0 },
     ) refl;
   };
 }
@@ -119,8 +120,8 @@ inv-decide {nums} s c l g τ v a = record {
     k : AllOk (asks (a .possible) s (Decide c l g τ))
     k = a .checks
 
-inv-conflict : {nums : Numbers} (s : State) (c : ℕ) (τ : List ℕ) → Inv nums s → Accepted nums s (Conflict c τ) (next s (Conflict c τ)) → Inv nums (next s (Conflict c τ))
-inv-conflict {nums} s c τ v a = record {
+conflict-keeps : {nums : Numbers} (s : State) (c : ℕ) (τ : List ℕ) → Inv nums s → Accepted nums s (Conflict c τ) (next s (Conflict c τ)) → Inv nums (next s (Conflict c τ))
+conflict-keeps {nums} s c τ v a = record {
   held = v .held;
   level = v .level;
   now = record {
@@ -129,7 +130,7 @@ inv-conflict {nums} s c τ v a = record {
     tail = here refl;
     possible = a .decides .0 (k .1 .1 .1 .1 .0);
     held = v .held C m;
-    sized = inst-sized (s .constants) C τ (and-r (clauseExists (clauses s) c) (instanceFits (s .constants) C τ) (k .1 .1 .0));
+    sized = instance-sized (s .constants) C τ (and-r (clauseExists (clauses s) c) (instanceFits (s .constants) C τ) (k .1 .1 .0));
     isfalse = λ l h. let (b, d, e) = Memᴰ·of-map (ground τ) (C .literals) h in subst (λ q. T (isFalse (s .trail) q)) e (allOf-out (λ m. isFalse (s .trail) (ground τ m)) (C .literals) (k .1 .1 .1 .0) d);
   };
 }
@@ -141,13 +142,13 @@ inv-conflict {nums} s c τ v a = record {
     k = a .checks
 
     m : List·Memᴰ C (clauses s)
-    m = clause-mem (clauses s) c (and-l (clauseExists (clauses s) c) (instanceFits (s .constants) C τ) (k .1 .1 .0))
+    m = clause-held (clauses s) c (and-l (clauseExists (clauses s) c) (instanceFits (s .constants) C τ) (k .1 .1 .0))
 
-inv-grow : {nums : Numbers} (s : State) (n : ℕ) → Inv nums s → Inv nums (next s (Grow n))
-inv-grow {nums} s n v = record { held = v .held; level = refl; now = record { lower = empty refl } }
+grow-keeps : {nums : Numbers} (s : State) (n : ℕ) → Inv nums s → Inv nums (next s (Grow n))
+grow-keeps {nums} s n v = record { held = v .held; level = refl; now = record { lower = empty refl } }
 
-inv-skip : {nums : Numbers} (s : State) → Inv nums s → Accepted nums s Skip (next s Skip) → Inv nums (next s Skip)
-inv-skip {nums} s v a = record { held = v .held; level = ap (levelAfterSkip (s .trail)) (v .level) ∙ lowered-decs (s .trail); now = go (s .conflict) (v .now) (k .0) (k .1 .1 .0) }
+skip-keeps : {nums : Numbers} (s : State) → Inv nums s → Accepted nums s Skip (next s Skip) → Inv nums (next s Skip)
+skip-keeps {nums} s v a = record { held = v .held; level = ap (levelAfterSkip (s .trail)) (v .level) ∙ skip-lowers-level (s .trail); now = go (s .conflict) (v .now) (k .0) (k .1 .1 .0) }
   where
     k : AllOk (asks (a .possible) s Skip)
     k = a .checks
@@ -156,8 +157,8 @@ inv-skip {nums} s v a = record { held = v .held; level = ap (levelAfterSkip (s .
     go none w h b = absurd h
     go (some N) w h b = record { t₀ = w .t₀; built = w .built; tail = tail-shorter (s .trail) (w .tail); possible = w .possible; held = w .held; sized = w .sized; isfalse = λ l m. skip-false N (s .trail) b l m (w .isfalse l m) }
 
-stands-factor : {nums : Numbers} {arities : List ℕ} {cs input : List Clause} {n : ℕ} {t : Trail} (N : Instanced) (i j : ℕ) → T (literalExists (N .clause) i && (literalExists (N .clause) j && not (eqb i j))) → T (sameLiteral (literalInstance N i) (literalInstance N j)) → Stands nums arities cs input n t N → Stands nums arities cs input n t (factored N (i - 1) (j - 1))
-stands-factor {nums} {arities} {cs} {input} {n} {t} N i j k e w = record {
+factorize-keeps-conflict : {nums : Numbers} {arities : List ℕ} {cs input : List Clause} {n : ℕ} {t : Trail} (N : Instanced) (i j : ℕ) → T (literalExists (N .clause) i && (literalExists (N .clause) j && not (eqb i j))) → T (sameLiteral (literalInstance N i) (literalInstance N j)) → Stands nums arities cs input n t N → Stands nums arities cs input n t (factored N (i - 1) (j - 1))
+factorize-keeps-conflict {nums} {arities} {cs} {input} {n} {t} N i j k e w = record {
   t₀ = w .t₀;
   built = w .built;
   tail = w .tail;
@@ -190,10 +191,10 @@ stands-factor {nums} {arities} {cs} {input} {n} {t} N i j k e w = record {
     j≥ = leb→le 1 j (and-l (leb 1 j) (leb j len) hj)
 
     i< : i - 1 < len
-    i< = pred-lt i len hi
+    i< = number-below i len hi
 
     j< : j - 1 < len
-    j< = pred-lt j len hj
+    j< = number-below j len hj
 
     lt : max (i - 1) (j - 1) < len
     lt = omega (arith, i<, j<)
@@ -211,27 +212,27 @@ stands-factor {nums} {arities} {cs} {input} {n} {t} N i j k e w = record {
     keep : (l : Literal) → List·Memᴰ l (map (ground (N .instance)) (without (max (i - 1) (j - 1)) (N .clause .literals))) → List·Memᴰ l (map (ground (N .instance)) (N .clause .literals))
     keep l m = let (x, y, z) = Memᴰ·of-map (ground (N .instance)) (without (max (i - 1) (j - 1)) (N .clause .literals)) m in Memᴰ·cast (sym z) (Memᴰ·map (ground (N .instance)) (without-out (max (i - 1) (j - 1)) (N .clause .literals) y))
 
-inv-factorize : {nums : Numbers} (s : State) (i j : ℕ) → Inv nums s → Accepted nums s (Factorize i j) (next s (Factorize i j)) → Inv nums (next s (Factorize i j))
-inv-factorize {nums} s i j v a = record { held = v .held; level = v .level; now = stands-factor (conflictOf (s .conflict)) i j (k .1 .0) (k .1 .1 .0) (stood s (s .conflict) (v .now) (k .0)) }
+factorize-keeps : {nums : Numbers} (s : State) (i j : ℕ) → Inv nums s → Accepted nums s (Factorize i j) (next s (Factorize i j)) → Inv nums (next s (Factorize i j))
+factorize-keeps {nums} s i j v a = record { held = v .held; level = v .level; now = factorize-keeps-conflict (conflictOf (s .conflict)) i j (k .1 .0) (k .1 .1 .0) (stood s (s .conflict) (v .now) (k .0)) }
   where
     k : AllOk (asks (a .possible) s (Factorize i j))
     k = a .checks
 
-stands-resolve : {nums : Numbers} (arities : List ℕ) (cs input : List Clause) (n : ℕ) → ((C : Clause) → List·Memᴰ C cs → Held nums arities input C)
+resolve-keeps-conflict : {nums : Numbers} (arities : List ℕ) (cs input : List Clause) (n : ℕ) → ((C : Clause) → List·Memᴰ C cs → Held nums arities input C)
     → (N : Instanced) (j : ℕ) (t : Trail) → T (literalExists (N .clause) j) → Limited (resolvent N (j - 1) (lastReason cs t .of) (lastReason cs t .own) .clause) → T (lastIsPropagated t) → T (sameLiteral (complement (lastLiteral t)) (literalInstance N j)) → Stands nums arities cs input n t N
     → Stands nums arities cs input n t (resolvent N (j - 1) (lastReason cs t .of) (lastReason cs t .own))
-stands-resolve {nums} arities cs input n helds N j [] okj few p e w = absurd p
-stands-resolve {nums} arities cs input n helds N j (background a ∷ t) okj few p e w = absurd p
-stands-resolve {nums} arities cs input n helds N j (foreground l (decided c i b τ) ∷ t) okj few p e w = absurd p
-stands-resolve {nums} arities cs input n helds N j (foreground l (propagated c i τ) ∷ t) okj few p e w = record {
+resolve-keeps-conflict {nums} arities cs input n helds N j [] okj few p e w = absurd p
+resolve-keeps-conflict {nums} arities cs input n helds N j (background a ∷ t) okj few p e w = absurd p
+resolve-keeps-conflict {nums} arities cs input n helds N j (foreground l (decided c i b τ) ∷ t) okj few p e w = absurd p
+resolve-keeps-conflict {nums} arities cs input n helds N j (foreground l (propagated c i τ) ∷ t) okj few p e w = record {
   t₀ = w .t₀;
   built = w .built;
   tail = w .tail;
   possible = possible-sub (λ a m. sub a (List·Memᴰ·append-cases (atomsOf (w .t₀)) m)) (w .possible);
   held = record {
-    class = resolvent-class N (j - 1) R o (pred-lt j (length (N .clause .literals)) okj) own-lt (w .held .class) (reason-class C (i - 1) τ lt (helds C memC .class)) (alike-comp (N .instance) (R .instance) (getD (N .clause .literals) (j - 1) noLiteral) (getD (R .clause .literals) o noLiteral) meet);
+    class = resolvent-class N (j - 1) R o (number-below j (length (N .clause .literals)) okj) own-lt (w .held .class) (reason-class C (i - 1) τ lt (helds C memC .class)) (alike-complement (N .instance) (R .instance) (getD (N .clause .literals) (j - 1) noLiteral) (getD (R .clause .literals) o noLiteral) meet);
     limited = few;
-    follows = λ I h. resolvent-true nums arities I N (j - 1) R o (alike-comp (N .instance) (R .instance) (getD (N .clause .literals) (j - 1) noLiteral) (getD (R .clause .literals) o noLiteral) meet) (w .held .follows I h) (reason-true nums arities I C (i - 1) τ lt (helds C memC .follows I h));
+    follows = λ I h. resolvent-true nums arities I N (j - 1) R o (alike-complement (N .instance) (R .instance) (getD (N .clause .literals) (j - 1) noLiteral) (getD (R .clause .literals) o noLiteral) meet) (w .held .follows I h) (reason-true nums arities I C (i - 1) τ lt (helds C memC .follows I h));
   };
   sized = resolvent-sized N (j - 1) R o n (placed (w .held .class)) (w .sized) wR sR meet;
   isfalse = λ k m. fal k (List·Memᴰ·append-cases (map (ground (N .instance)) (without (j - 1) (N .clause .literals))) (subst (List·Memᴰ k) (resolvent-literals N (j - 1) R o n (placed (w .held .class)) (w .sized) wR sR meet) m));
@@ -250,13 +251,13 @@ stands-resolve {nums} arities cs input n helds N j (foreground l (propagated c i
     P = B .ok .1
 
     memC : List·Memᴰ C cs
-    memC = clause-mem cs c okc
+    memC = clause-held cs c okc
 
     lt : i - 1 < length (C .literals)
-    lt = pred-lt i (length (C .literals)) (and-l (literalExists C i) (instanceFits n C τ) (P .named))
+    lt = number-below i (length (C .literals)) (and-l (literalExists C i) (instanceFits n C τ) (P .named))
 
     szC : Sized n (C .variables) τ
-    szC = inst-sized n C τ (and-r (literalExists C i) (instanceFits n C τ) (P .named))
+    szC = instance-sized n C τ (and-r (literalExists C i) (instanceFits n C τ) (P .named))
 
     R : Instanced
     R = reason C (i - 1) τ .of
@@ -295,10 +296,10 @@ stands-resolve {nums} arities cs input n helds N j (foreground l (propagated c i
     fal k (inr m) =
         let (x, y, z, q) = reason-rest C (i - 1) τ n lt (placed (helds C memC .class)) szC m in
         subst (λ u. T (isFalse (foreground l (propagated c i τ) ∷ t) u)) q
-        (or-right (sameLiteral (complement (ground τ x)) l) (isFalse t (ground τ x)) (or-skip (sameLiteral (ground τ x) g) (isFalse t (ground τ x)) (allOf-out (λ m. sameLiteral (ground τ m) g || isFalse t (ground τ m)) (C .literals) (P .others) y) z))
+        (or-r (sameLiteral (complement (ground τ x)) l) (isFalse t (ground τ x)) (or-second (sameLiteral (ground τ x) g) (isFalse t (ground τ x)) (allOf-out (λ m. sameLiteral (ground τ m) g || isFalse t (ground τ m)) (C .literals) (P .others) y) z))
 
-inv-resolve : {nums : Numbers} (s : State) (j : ℕ) → Inv nums s → Accepted nums s (Resolve j) (next s (Resolve j)) → Inv nums (next s (Resolve j))
-inv-resolve {nums} s j v a = record { held = v .held; level = v .level; now = stands-resolve (s .arities) (clauses s) (s .input) (s .constants) (v .held) (conflictOf (s .conflict)) j (s .trail) (k .1 .0) (limited-of (resolvent (conflictOf (s .conflict)) (j - 1) (lastReason (clauses s) (s .trail) .of) (lastReason (clauses s) (s .trail) .own) .clause) (k .1 .1 .1 .1 .0)) (k .1 .1 .0) (k .1 .1 .1 .0) (stood s (s .conflict) (v .now) (k .0)) }
+resolve-keeps : {nums : Numbers} (s : State) (j : ℕ) → Inv nums s → Accepted nums s (Resolve j) (next s (Resolve j)) → Inv nums (next s (Resolve j))
+resolve-keeps {nums} s j v a = record { held = v .held; level = v .level; now = resolve-keeps-conflict (s .arities) (clauses s) (s .input) (s .constants) (v .held) (conflictOf (s .conflict)) j (s .trail) (k .1 .0) (limited-of (resolvent (conflictOf (s .conflict)) (j - 1) (lastReason (clauses s) (s .trail) .of) (lastReason (clauses s) (s .trail) .own) .clause) (k .1 .1 .1 .1 .0)) (k .1 .1 .0) (k .1 .1 .1 .0) (stood s (s .conflict) (v .now) (k .0)) }
   where
     k : AllOk (asks (a .possible) s (Resolve j))
     k = a .checks
@@ -320,12 +321,12 @@ cut-built {nums} cs n {t₀} t i b h r = go (r .entry) (r .dec) (tail-trans (r .
     go (foreground l m) d k = below nums cs n b k .built
     go (background a) d k = absurd d
 
-pub step-undef : (nums : Numbers) (cs : List Clause) (n : ℕ) (t : Trail) (m : Origin) → StepOk nums cs n t m → T (undefined t (litBy cs m))
-step-undef nums cs n t (propagated c l τ) k = k .1 .undefd
-step-undef nums cs n t (decided c l b τ) k = k .1 .undefd
+pub step-undefined : (nums : Numbers) (cs : List Clause) (n : ℕ) (t : Trail) (m : Origin) → StepOk nums cs n t m → T (undefined t (literalBy cs m))
+step-undefined nums cs n t (propagated c l τ) k = k .1 .undefined-yet
+step-undefined nums cs n t (decided c l b τ) k = k .1 .undefined-yet
 
-cut-undef : {nums : Numbers} (cs : List Clause) (n : ℕ) {t₀ : Trail} (t : Trail) (i : ℕ) (k : Literal) → Built nums cs n t₀ → Tail t t₀ → i < levelOf k t → T (undefined (cut i t) k)
-cut-undef {nums} cs n {t₀} t i k b h lt = go (said (sameLiteral k (F .lit)))
+cut-undefined : {nums : Numbers} (cs : List Clause) (n : ℕ) {t₀ : Trail} (t : Trail) (i : ℕ) (k : Literal) → Built nums cs n t₀ → Tail t t₀ → i < levelOf k t → T (undefined (cut i t) k)
+cut-undefined {nums} cs n {t₀} t i k b h lt = go (said (sameLiteral k (F .lit)))
   where
     F : Found k t
     F = found k t (omega arith)
@@ -334,7 +335,7 @@ cut-undef {nums} cs n {t₀} t i k b h lt = go (said (sameLiteral k (F .lit)))
     B = below nums cs n b (tail-trans (F .at) h)
 
     U : T (undefined (F .rest) (F .lit))
-    U = subst (λ q. T (undefined (F .rest) q)) (sym (B .lit)) (step-undef nums cs n (F .rest) (F .made) (B .ok))
+    U = subst (λ q. T (undefined (F .rest) q)) (sym (B .lit)) (step-undefined nums cs n (F .rest) (F .made) (B .ok))
 
     In : Tail (cut i t) (F .rest)
     In = cut-inside i (F .at) (omega (arith, F .lev))
@@ -343,16 +344,16 @@ cut-undef {nums} cs n {t₀} t i k b h lt = go (said (sameLiteral k (F .lit)))
     off q = off-tail q In
 
     U₁ : T (not (onTrail (F .lit) (F .rest)))
-    U₁ = nor-l (onTrail (F .lit) (F .rest)) (onTrail (complement (F .lit)) (F .rest)) U
+    U₁ = not-or (onTrail (F .lit) (F .rest)) (onTrail (complement (F .lit)) (F .rest)) U .0
 
     U₂ : T (not (onTrail (complement (F .lit)) (F .rest)))
-    U₂ = nor-r (onTrail (F .lit) (F .rest)) (onTrail (complement (F .lit)) (F .rest)) U
+    U₂ = not-or (onTrail (F .lit) (F .rest)) (onTrail (complement (F .lit)) (F .rest)) U .1
 
     go : Said (sameLiteral k (F .lit)) → T (undefined (cut i t) k)
     go (holds e) = let p = sym (sameLiteral→eq k (F .lit) e) in
-        nor (onTrail k (cut i t)) (onTrail (complement k) (cut i t)) (subst (λ q. T (not (onTrail q (cut i t)))) p (off (F .lit) U₁)) (subst (λ q. T (not (onTrail (complement q) (cut i t)))) p (off (complement (F .lit)) U₂))
-    go (fails e) = let p = sym (sameLiteral→eq (complement k) (F .lit) (or-skip (sameLiteral k (F .lit)) (sameLiteral (complement k) (F .lit)) (F .hit) e)) in
-        nor (onTrail k (cut i t)) (onTrail (complement k) (cut i t)) (subst (λ q. T (not (onTrail q (cut i t)))) (ap complement p ∙ complement-complement k) (off (complement (F .lit)) U₂)) (subst (λ q. T (not (onTrail q (cut i t)))) p (off (F .lit) U₁))
+        not-or-in (onTrail k (cut i t)) (onTrail (complement k) (cut i t)) (subst (λ q. T (not (onTrail q (cut i t)))) p (off (F .lit) U₁)) (subst (λ q. T (not (onTrail (complement q) (cut i t)))) p (off (complement (F .lit)) U₂))
+    go (fails e) = let p = sym (sameLiteral→eq (complement k) (F .lit) (or-second (sameLiteral k (F .lit)) (sameLiteral (complement k) (F .lit)) (F .hit) e)) in
+        not-or-in (onTrail k (cut i t)) (onTrail (complement k) (cut i t)) (subst (λ q. T (not (onTrail q (cut i t)))) (ap complement p ∙ complement-twice k) (off (complement (F .lit)) U₂)) (subst (λ q. T (not (onTrail q (cut i t)))) p (off (F .lit) U₁))
 
 backtracked : {nums : Numbers} {arities : List ℕ} {cs input : List Clause} {n : ℕ} {t : Trail} (N : Instanced) (l : ℕ) → Stands nums arities cs input n t N
     → T (literalExists (N .clause) l) → backLevel N l t < levelOf (literalInstance N l) t
@@ -363,7 +364,7 @@ backtracked {nums} {arities} {cs} {input} {n} {t} N l w okl lt possible room =
     group (propagated (suc (length cs)) l (N .instance)) (built-more cs (N .clause) n (cut-built cs n t i (w .built) (w .tail) (cut-at i t (omega (arith, level-le (literalInstance N l) t))))) (
       ok-new cs (N .clause),
       subst (λ K. PropOk nums n (cut i t) K (suc (length cs)) l (N .instance)) q
-          (record { short = le→leb (length (N .instance)) mostVariables (omega (arith, w .sized .size, w .held .limited .few-variables)); named = and-i (literalExists (N .clause) l) (instanceFits n (N .clause) (N .instance)) okl (sized-inst n (N .clause) (N .instance) (w .sized)); undefd = cut-undef cs n t i (literalInstance N l) (w .built) (w .tail) lt; others = allOf-in (λ m. sameLiteral (ground (N .instance) m) (literalInstance N l) || isFalse (cut i t) (ground (N .instance) m)) (N .clause .literals) (λ m h. each m h (without-cases (l - 1) (N .clause .literals) noLiteral h)); possible = possible; room = room }),
+          (record { short = le→leb (length (N .instance)) mostVariables (omega (arith, w .sized .size, w .held .limited .few-variables)); named = and-i (literalExists (N .clause) l) (instanceFits n (N .clause) (N .instance)) okl (sized-instance n (N .clause) (N .instance) (w .sized)); undefined-yet = cut-undefined cs n t i (literalInstance N l) (w .built) (w .tail) lt; others = allOf-in (λ m. sameLiteral (ground (N .instance) m) (literalInstance N l) || isFalse (cut i t) (ground (N .instance) m)) (N .clause .literals) (λ m h. each m h (without-cases (l - 1) (N .clause .literals) noLiteral h)); possible = possible; room = room }),
     )
     (ap (λ K. propagatedTrail K (l - 1) (N .instance) (propagated (suc (length cs)) l (N .instance)) (cut i t)) q)
   where
@@ -375,10 +376,10 @@ backtracked {nums} {arities} {cs} {input} {n} {t} N l w okl lt possible room =
 
     each : (m : Literal) → List·Memᴰ m (N .clause .literals) → (m ≡ getD (N .clause .literals) (l - 1) noLiteral) ⊎ List·Memᴰ m (without (l - 1) (N .clause .literals)) → T (sameLiteral (ground (N .instance) m) (literalInstance N l) || isFalse (cut i t) (ground (N .instance) m))
     each m h (inl e) = or-either (sameLiteral (ground (N .instance) m) (literalInstance N l)) (isFalse (cut i t) (ground (N .instance) m)) (inl (subst (λ u. T (sameLiteral (ground (N .instance) m) (ground (N .instance) u))) e (sameLiteral-refl (ground (N .instance) m))))
-    each m h (inr k) = or-either (sameLiteral (ground (N .instance) m) (literalInstance N l)) (isFalse (cut i t) (ground (N .instance) m)) (inr (cut-false i (ground (N .instance) m) t (w .isfalse (ground (N .instance) m) (Memᴰ·map (ground (N .instance)) h)) (max-level (ground (N .instance) m) t (otherInstances N l) (Memᴰ·map (ground (N .instance)) k))))
+    each m h (inr k) = or-either (sameLiteral (ground (N .instance) m) (literalInstance N l)) (isFalse (cut i t) (ground (N .instance) m)) (inr (cut-false i (ground (N .instance) m) t (w .isfalse (ground (N .instance) m) (Memᴰ·map (ground (N .instance)) h)) (level-at-most (ground (N .instance) m) t (otherInstances N l) (Memᴰ·map (ground (N .instance)) k))))
 
-inv-backtrack : {nums : Numbers} (s : State) (l : ℕ) → Inv nums s → Accepted nums s (Backtrack l) (next s (Backtrack l)) → Inv nums (next s (Backtrack l))
-inv-backtrack {nums} s l v a = record {
+backtrack-keeps : {nums : Numbers} (s : State) (l : ℕ) → Inv nums s → Accepted nums s (Backtrack l) (next s (Backtrack l)) → Inv nums (next s (Backtrack l))
+backtrack-keeps {nums} s l v a = record {
   held = λ C m. helds C (List·Memᴰ·append-cases (clauses s) (subst (List·Memᴰ C) (sym asc) m));
   level = sym (decisions-push (groundAtoms (N .instance) (N .clause .atoms)) (foreground (literalInstance N l) (propagated (suc (length (clauses s))) l (N .instance)) ∷ cut i (s .trail)) ∙ cut-at i (s .trail) (omega (arith, lt, level-le (literalInstance N l) (s .trail))) .depth);
   now = record { lower = subst (λ cs. Built nums cs (s .constants) (next s (Backtrack l) .trail)) asc (backtracked N l w (k .1 .0) lt (a .decides .0 (k .1 .1 .1 .1 .0)) (and-l (leb (length (next s (Backtrack l) .trail)) 160) (leb (suc (length (s .learned))) 48) (k .1 .1 .1 .1 .1 .0))) };
@@ -411,12 +412,12 @@ pub inv-step : {nums : Numbers} (s : State) (x : Step) (s′ : State) → Inv nu
 inv-step {nums} s x s′ v a = subst (Inv nums) (sym (a .is)) (go x (record { possible = a .possible; decides = a .decides; checks = a .checks; is = refl }))
   where
     go : (x : Step) → Accepted nums s x (next s x) → Inv nums (next s x)
-    go (Propagate c l τ) a = inv-propagate s c l τ v a
-    go (Decide c l g τ) a = inv-decide s c l g τ v a
-    go (Conflict c τ) a = inv-conflict s c τ v a
-    go (Resolve l) a = inv-resolve s l v a
-    go (Factorize i j) a = inv-factorize s i j v a
-    go Skip a = inv-skip s v a
-    go (Backtrack l) a = inv-backtrack s l v a
-    go (Grow n) a = inv-grow s n v
+    go (Propagate c l τ) a = propagate-keeps s c l τ v a
+    go (Decide c l g τ) a = decide-keeps s c l g τ v a
+    go (Conflict c τ) a = conflict-keeps s c τ v a
+    go (Resolve l) a = resolve-keeps s l v a
+    go (Factorize i j) a = factorize-keeps s i j v a
+    go Skip a = skip-keeps s v a
+    go (Backtrack l) a = backtrack-keeps s l v a
+    go (Grow n) a = grow-keeps s n v
     go (Unknown r) a = absurd (a .checks .0)

@@ -1,4 +1,4 @@
--- Tails and cuts of trails, levels, and what is false or undefined on them.
+-- Tails and cuts of trails, levels, and what is false or undefined on them; what the numbers of a step name.
 use mathlib.Core.Path.{_∙_, _≡_, ap, refl, subst, sym}
 use mathlib.Core.Logic.{_⊎_, inl, inr}
 use mathlib.Core.List.{List, List·Memᴰ, List·Memᴰ·cases-cons, List·Memᴰ·not-nil, Memᴰ·of-map, [], _++_, _∷_, map}
@@ -9,8 +9,9 @@ use lib.Dec.{T, T-not, eqb, eqb-refl, eqb→eq, leb, leb→le, le→leb, ltb, lt
 use lib.ListN.{List·getD-append, getD, length, length-append}
 use lib.Seq.{getD-append-seam}
 use Rattle.basis.specs.declared.Literal.{Literal}
+use Rattle.lists.proofs.Denials.{not-or, or-second}
 use Rattle.lists.proofs.Members.{allOf-in, allOf-out, anyOf-in, getD-mem}
-use Rattle.lists.proofs.Tests.{F→eq, Said, T→eq, and-i, and-l, and-r, fails, holds, said}
+use Rattle.lists.proofs.Tests.{F→eq, Said, T→eq, and-i, and-l, and-r, fails, holds, or-r, said}
 use Rattle.lists.specs.Lists.{allOf}
 use Rattle.calculus.specs.Checks.{between}
 use Rattle.calculus.specs.Clauses.{Clause, Instanced, complement, ground, noClause, sameLiteral}
@@ -19,28 +20,29 @@ use Rattle.calculus.specs.States.{clauseAt}
 use Rattle.calculus.specs.Trails.{Entry, Origin, Trail, background, cut, decisions, foreground, isDecision, isFalse, isLiteral, largestLevel, levelOf, onTrail}
 use Rattle.calculus.proofs.Instances.{Sized}
 use Rattle.calculus.proofs.Merged.{sameLiteral-refl, sameLiteral→eq}
+use Rattle.calculus.proofs.OnTrail.{complement-twice}
 use Rattle.calculus.proofs.Trails.{Tail, here, tail-more, there}
 use Rattle.calculus.proofs.Truths.{Alike}
 
-pub pred-lt : (c k : ℕ) → T (between 1 k c) → c - 1 < k
-pred-lt c k t =
+pub number-below : (c k : ℕ) → T (between 1 k c) → c - 1 < k
+number-below c k t =
     let a = leb→le 1 c (and-l (leb 1 c) (leb c k) t) in
     let b = leb→le c k (and-r (leb 1 c) (leb c k) t) in
     omega arith
 
-pub clause-mem : (cs : List Clause) (c : ℕ) → T (clauseExists cs c) → List·Memᴰ (clauseAt cs c) cs
-clause-mem cs c t = getD-mem cs (c - 1) noClause (pred-lt c (length cs) t)
+pub clause-held : (cs : List Clause) (c : ℕ) → T (clauseExists cs c) → List·Memᴰ (clauseAt cs c) cs
+clause-held cs c t = getD-mem cs (c - 1) noClause (number-below c (length cs) t)
 
-pub inst-sized : (n : ℕ) (C : Clause) (τ : List ℕ) → T (instanceFits n C τ) → Sized n (C .variables) τ
-inst-sized n C τ t = record { size = eqb→eq (length τ) (C .variables) (and-l (eqb (length τ) (C .variables)) (allOf (between 1 n) τ) t); range = λ c m. allOf-out (between 1 n) τ (and-r (eqb (length τ) (C .variables)) (allOf (between 1 n) τ) t) m }
+pub instance-sized : (n : ℕ) (C : Clause) (τ : List ℕ) → T (instanceFits n C τ) → Sized n (C .variables) τ
+instance-sized n C τ t = record { size = eqb→eq (length τ) (C .variables) (and-l (eqb (length τ) (C .variables)) (allOf (between 1 n) τ) t); range = λ c m. allOf-out (between 1 n) τ (and-r (eqb (length τ) (C .variables)) (allOf (between 1 n) τ) t) m }
 
-pub sized-inst : (n : ℕ) (C : Clause) (τ : List ℕ) → Sized n (C .variables) τ → T (instanceFits n C τ)
-sized-inst n C τ z = and-i (eqb (length τ) (C .variables)) (allOf (between 1 n) τ) (subst (λ k. T (eqb (length τ) k)) (z .size) (eqb-refl (length τ))) (allOf-in (between 1 n) τ (z .range))
+pub sized-instance : (n : ℕ) (C : Clause) (τ : List ℕ) → Sized n (C .variables) τ → T (instanceFits n C τ)
+sized-instance n C τ z = and-i (eqb (length τ) (C .variables)) (allOf (between 1 n) τ) (subst (λ k. T (eqb (length τ) k)) (z .size) (eqb-refl (length τ))) (allOf-in (between 1 n) τ (z .range))
 
 -- ---- Skip
-pub lowered-decs : (t : Trail) → levelAfterSkip t (decisions t) ≡ decisions (withoutLast t)
-lowered-decs [] = refl
-lowered-decs (e ∷ t) = go (isDecision e)
+pub skip-lowers-level : (t : Trail) → levelAfterSkip t (decisions t) ≡ decisions (withoutLast t)
+skip-lowers-level [] = refl
+skip-lowers-level (e ∷ t) = go (isDecision e)
   where
     go : (b : Bool) → cond b (cond b (suc (decisions t)) (decisions t) - 1) (cond b (suc (decisions t)) (decisions t)) ≡ decisions t
     go true = omega arith
@@ -49,13 +51,6 @@ lowered-decs (e ∷ t) = go (isDecision e)
 pub tail-shorter : (t : Trail) {t₀ : Trail} → Tail t t₀ → Tail (withoutLast t) t₀
 tail-shorter [] h = h
 tail-shorter (e ∷ t) h = tail-more h
-
-pub complement-complement : (l : Literal) → complement (complement l) ≡ l
-complement-complement l = λ i. record { positive = go (l .positive) i; predicate = l .predicate; x = l .x; y = l .y; z = l .z }
-  where
-    go : (b : Bool) → not (not b) ≡ b
-    go true = refl
-    go false = refl
 
 pub skip-false : (N : Instanced) (t : Trail) → T (not (complementInConflict N t)) → (l : Literal) → List·Memᴰ l (map (ground (N .instance)) (N .clause .literals)) → T (isFalse t l) → T (isFalse (withoutLast t) l)
 skip-false N [] b l m h = h
@@ -66,7 +61,7 @@ skip-false N (foreground k s ∷ t) b l m h = go (said (sameLiteral (complement 
     go (fails e) h = subst (λ q. T (q || onTrail (complement l) t)) (F→eq (sameLiteral (complement l) k) e) h
     go (holds e) h =
         let (x, y, z) = Memᴰ·of-map (ground (N .instance)) (N .clause .literals) m in
-        let p : complement k ≡ ground (N .instance) x = ap complement (sym (sameLiteral→eq (complement l) k e)) ∙ complement-complement l ∙ sym z in
+        let p : complement k ≡ ground (N .instance) x = ap complement (sym (sameLiteral→eq (complement l) k e)) ∙ complement-twice l ∙ sym z in
         absurd (T-not (complementInConflict N (foreground k s ∷ t)) b (anyOf-in (λ q. sameLiteral (complement k) (ground (N .instance) q)) (N .clause .literals) y (subst (λ q. T (sameLiteral (complement k) q)) p (sameLiteral-refl (complement k)))))
 
 -- ---- Factorize
@@ -77,30 +72,21 @@ min-max f a b e = go (said (leb a b))
     go (holds s) = ap f (omega (arith, leb→le a b s)) ∙ e ∙ ap f (omega (arith, leb→le a b s))
     go (fails s) = ap f (omega (arith, nleb→lt a b s)) ∙ sym e ∙ ap f (omega (arith, nleb→lt a b s))
 
--- ---- Resolve
-pub or-right : (a b : Bool) → T b → T (a || b)
-or-right true b t = tt
-or-right false b t = t
-
-pub or-skip : (a b : Bool) → T (a || b) → T (not a) → T b
-or-skip true b t n = absurd n
-or-skip false b t n = t
-
-pub alike-comp : (τ π : List ℕ) (l m : Literal) → ground τ l ≡ complement (ground π m) → Alike l (complement m)
-alike-comp τ π l m e = record { signs = ap (λ (k : Literal). k .positive) e; predicates = ap (λ (k : Literal). k .predicate) e }
+pub alike-complement : (τ π : List ℕ) (l m : Literal) → ground τ l ≡ complement (ground π m) → Alike l (complement m)
+alike-complement τ π l m e = record { signs = ap (λ (k : Literal). k .positive) e; predicates = ap (λ (k : Literal). k .predicate) e }
 
 -- ---- Backtrack
 abbrev pub snoc : List Clause → Clause → List Clause
 snoc cs C = cs ++ (C ∷ [])
 
--- clause numbers stay valid
+-- Clause numbers stay valid
 pub ok-more : (cs : List Clause) (D : Clause) (c : ℕ) → T (clauseExists cs c) → T (clauseExists (snoc cs D) c)
 ok-more cs D c t =
     let h = leb→le c (length cs) (and-r (leb 1 c) (leb c (length cs)) t) in
     and-i (leb 1 c) (leb c (length (snoc cs D))) (and-l (leb 1 c) (leb c (length cs)) t) (le→leb c (length (snoc cs D)) (omega (arith, length-append cs (D ∷ []))))
 
 pub clause-keep : (cs : List Clause) (D : Clause) (c : ℕ) → T (clauseExists cs c) → clauseAt (snoc cs D) c ≡ clauseAt cs c
-clause-keep cs D c t = List·getD-append cs (D ∷ []) noClause (c - 1) (pred-lt c (length cs) t)
+clause-keep cs D c t = List·getD-append cs (D ∷ []) noClause (c - 1) (number-below c (length cs) t)
 
 pub clause-new : (cs : List Clause) (D : Clause) → clauseAt (snoc cs D) (suc (length cs)) ≡ D
 clause-new cs D = ap (λ q. getD (snoc cs D) q noClause) e ∙ getD-append-seam cs D [] noClause
@@ -111,7 +97,7 @@ clause-new cs D = ap (λ q. getD (snoc cs D) q noClause) e ∙ getD-append-seam 
 pub ok-new : (cs : List Clause) (D : Clause) → T (clauseExists (snoc cs D) (suc (length cs)))
 ok-new cs D = and-i (leb 1 (suc (length cs))) (leb (suc (length cs)) (length (snoc cs D))) (le→leb 1 (suc (length cs)) (omega arith)) (le→leb (suc (length cs)) (length (snoc cs D)) (omega (arith, length-append cs (D ∷ []))))
 
--- the cut
+-- The cut
 pub tail-trans : {t u w : Trail} → Tail t u → Tail u w → Tail t w
 tail-trans {t} h (here e) = subst (Tail t) e h
 tail-trans h (there k) = there (tail-trans h k)
@@ -149,22 +135,6 @@ cut-at i (e ∷ t) h = go (λ k. cut-at i t k) (said (ltb i (decisions t)))
         let e₂ : cut i (e ∷ t) ≡ t = e₁ ∙ cut-all i t h₂ in
         record { entry = e; dec = r .0; under = here (ap {B = Trail} (λ q. e ∷ q) e₂); depth = ap decisions e₂ ∙ r .1 }
 
--- what is false at a level up to i stays false
-pub nor-l : (a b : Bool) → T (not (a || b)) → T (not a)
-nor-l true b t = t
-nor-l false b t = tt
-
-pub nor-r : (a b : Bool) → T (not (a || b)) → T (not b)
-nor-r true b t = absurd t
-nor-r false b t = t
-
-pub nor : (a b : Bool) → T (not a) → T (not b) → T (not (a || b))
-nor true b s t = s
-nor false b s t = t
-
-pub hits : Literal → Entry → Bool
-hits k e = isLiteral k e || isLiteral (complement k) e
-
 pub level-hit : (k : Literal) (e : Entry) (t : Trail) → T (isLiteral k e || isLiteral (complement k) e) → levelOf k (e ∷ t) ≡ decisions (e ∷ t)
 level-hit k e t h = rw (T→eq (isLiteral k e || isLiteral (complement k) e) h)
 
@@ -196,17 +166,17 @@ cut-false i k (e ∷ t) f h = go (λ f h. cut-false i k t f h) (said (leb (decis
     go : (T (isFalse t k) → levelOf k t ≤ i → T (isFalse (cut i t) k)) → Said (leb (decisions (e ∷ t)) i) → Said (isLiteral k e || isLiteral (complement k) e) → T (isFalse (cut i (e ∷ t)) k)
     go ih (holds q) m = rw (T→eq (leb (decisions (e ∷ t)) i) q) f
     go ih (fails q) (holds m) = absurd (omega (arith, level-hit k e t m, nleb→lt (decisions (e ∷ t)) i q))
-    go ih (fails q) (fails m) = rw (F→eq (leb (decisions (e ∷ t)) i) q) (ih (or-skip (isLiteral (complement k) e) (isFalse t k) f (nor-r (isLiteral k e) (isLiteral (complement k) e) m)) (omega (arith, level-miss k e t m)))
+    go ih (fails q) (fails m) = rw (F→eq (leb (decisions (e ∷ t)) i) q) (ih (or-second (isLiteral (complement k) e) (isFalse t k) f (not-or (isLiteral k e) (isLiteral (complement k) e) m .1)) (omega (arith, level-miss k e t m)))
 
-pub max-level : (k : Literal) (t : Trail) (ls : List Literal) → List·Memᴰ k ls → levelOf k t ≤ largestLevel t ls
-max-level k t [] m = absurd (List·Memᴰ·not-nil m)
-max-level k t (l ∷ ls) m = go (λ h. max-level k t ls h) (List·Memᴰ·cases-cons m)
+pub level-at-most : (k : Literal) (t : Trail) (ls : List Literal) → List·Memᴰ k ls → levelOf k t ≤ largestLevel t ls
+level-at-most k t [] m = absurd (List·Memᴰ·not-nil m)
+level-at-most k t (l ∷ ls) m = go (λ h. level-at-most k t ls h) (List·Memᴰ·cases-cons m)
   where
     go : (List·Memᴰ k ls → levelOf k t ≤ largestLevel t ls) → (k ≡ l) ⊎ List·Memᴰ k ls → levelOf k t ≤ largestLevel t (l ∷ ls)
     go ih (inl e) = omega (arith, ap (λ q. levelOf q t) e)
     go ih (inr h) = omega (arith, ih h)
 
--- the newest entry of a literal's atom
+-- The newest entry of a literal's atom
 pub record Found (k : Literal) (t : Trail) : Type 0 where
   pub lit : Literal
   pub made : Origin
@@ -242,12 +212,7 @@ cut-inside i {e} {r} (there {e = e′} {u = u} k) h = subst (λ q. Tail q r) (sy
 
 pub on-tail : (k : Literal) {t u : Trail} → Tail t u → T (onTrail k t) → T (onTrail k u)
 on-tail k (here e) h = subst (λ q. T (onTrail k q)) e h
-on-tail k (there {e = e} {u = u} p) h = or-right (isLiteral k e) (onTrail k u) (on-tail k p h)
+on-tail k (there {e = e} {u = u} p) h = or-r (isLiteral k e) (onTrail k u) (on-tail k p h)
 
 pub off-tail : (k : Literal) {t u : Trail} → Tail t u → T (not (onTrail k u)) → T (not (onTrail k t))
 off-tail k {t} {u} p h = not-T (onTrail k t) (λ q. T-not (onTrail k u) h (on-tail k p q))
-
-pub or-either : (a b : Bool) → T a ⊎ T b → T (a || b)
-or-either true b h = tt
-or-either false b (inl h) = absurd h
-or-either false b (inr h) = h

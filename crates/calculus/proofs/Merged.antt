@@ -1,4 +1,4 @@
--- Membership through the functions of Base and Calc.
+-- Tested equality of atoms and literals, atoms kept once, and groups of variables that are joined.
 use mathlib.Core.Path.{_∙_, _≡_, ap, refl, subst, sym}
 use mathlib.Core.Logic.{_⊎_, inl, inr}
 use mathlib.Core.List.{List, List·Memᴰ, List·Memᴰ·cases-cons, List·Memᴰ·head, List·Memᴰ·not-nil, List·Memᴰ·tail, [], _∷_, map}

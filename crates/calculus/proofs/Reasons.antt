@@ -25,7 +25,6 @@ use Rattle.calculus.specs.States.{Backtrack, Conflict, Decide, Factorize
 use Rattle.calculus.specs.Trails.{Trail, background, decided, foreground, isFalse, levelOf, onTrail, propagated, undefined}
 use Rattle.calculus.proofs.Merged.{sameLiteral→eq}
 use Rattle.calculus.proofs.OnTrail.{on-in, on-out, other-false-in, other-false-out, same-literal}
-use Rattle.calculus.proofs.Trails.{there}
 
 -- Check by check, the same number and the same meaning
 infixr 22 _also_

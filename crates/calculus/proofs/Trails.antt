@@ -1,5 +1,4 @@
--- Trails that are built group by group, and replay.
--- ---- tails
+-- Trails that are built group by group, what lies below an entry of one, and that the steps behind its entries build it again.
 use mathlib.Core.Path.{_∙_, _≡_, ap, refl, subst, sym}
 use mathlib.Core.Logic.{_⊎_, inl, inr}
 use mathlib.Core.List.{List, List·Memᴰ, List·Memᴰ·cases-cons, List·Memᴰ·head, List·Memᴰ·not-nil, List·Memᴰ·tail, Memᴰ·cast, [], _++_, _∷_, reverse, reverse-cons}
@@ -15,10 +14,9 @@ use Rattle.basis.specs.Numbers.{Numbers}
 use Rattle.basis.specs.declared.Atom.{Atom}
 use Rattle.basis.specs.declared.Literal.{Literal}
 use Rattle.lists.proofs.Tests.{F→eq, Said, T→eq, and-i, fails, holds, said}
-use Rattle.calculus.specs.Answers.{rising}
 use Rattle.calculus.specs.Clauses.{Clause, ground, groundAtoms, noLiteral, sameAtom}
 use Rattle.calculus.specs.Rules.{clauseExists, decidedLiteral, instanceFits, literalExists, next, othersFalse, propagatedTrail}
-use Rattle.calculus.specs.Runs.{AcceptedRun, over, replayed, restarted, stepOf, stepsOf, then}
+use Rattle.calculus.specs.Runs.{AcceptedRun, replayed, restarted, stepOf, stepsOf}
 use Rattle.calculus.specs.States.{State, Step, clauseAt, clauses, updated}
 use Rattle.calculus.specs.Trails.{Entry, Origin, Trail, appendAtoms, atomOnTrail, atomsOf, background, decided, decisions, foreground, propagated, undefined}
 use Rattle.calculus.proofs.Answers.{Accepted, accepted-next}
@@ -35,14 +33,6 @@ tail-cases (there h) = inr h
 pub tail-more : {t u : Trail} {e : Entry} → Tail (e ∷ t) u → Tail t u
 tail-more {t} {e} (here p) = subst (Tail t) p (there (here refl))
 tail-more (there h) = there (tail-more h)
-
-abbrev isFore : Entry → Bool
-isFore (foreground l m) = true
-isFore (background a) = false
-
-headFore : Trail → Bool
-headFore [] = false
-headFore (e ∷ t) = isFore e
 
 -- ---- groups
 pub push-ind : (P : Trail → Type 0) → ((a : Atom) (t : Trail) → P t → P (background a ∷ t)) → (az : List Atom) (t : Trail) → P t → P (appendAtoms az t)
@@ -66,11 +56,11 @@ foreground-push {l} {m} {u} az t = push-ind (λ w. Tail (foreground l m ∷ u) w
     go a w ih (inl p) = absurd (let z : _≡_ {A = ℕ} 0 1 = cc in omega arith)
     go a w ih (inr h) = ih h
 
--- what a step asks of the trail before it, of the clause K that it names
+-- What a Propagate asks of the trail before it, of the clause K that it names
 pub record PropOk (nums : Numbers) (n : ℕ) (t : Trail) (K : Clause) (c l : ℕ) (τ : List ℕ) : Type 0 where
   pub short : T (leb (length τ) mostVariables)
   pub named : T (literalExists K l && instanceFits n K τ)
-  pub undefd : T (undefined t (ground τ (getD (K .literals) (l - 1) noLiteral)))
+  pub undefined-yet : T (undefined t (ground τ (getD (K .literals) (l - 1) noLiteral)))
   pub others : T (othersFalse t τ (ground τ (getD (K .literals) (l - 1) noLiteral)) (K .literals))
   pub possible : Possible nums n (atomsOf t ++ groundAtoms τ (K .atoms))
   pub room : T (leb (length (propagatedTrail K (l - 1) τ (propagated c l τ) t)) 160)
@@ -78,20 +68,20 @@ pub record PropOk (nums : Numbers) (n : ℕ) (t : Trail) (K : Clause) (c l : ℕ
 pub record DecOk (n : ℕ) (t : Trail) (K : Clause) (l : ℕ) (b : Bool) (τ : List ℕ) : Type 0 where
   pub short : T (leb (length τ) mostVariables)
   pub named : T (literalExists K l && instanceFits n K τ)
-  pub undefd : T (undefined t (decidedLiteral K (l - 1) b τ))
+  pub undefined-yet : T (undefined t (decidedLiteral K (l - 1) b τ))
   pub room : T (leb (suc (length t)) 160)
 
 module _ (cs : List Clause) where
-  abbrev pub litBy : Origin → Literal
-  litBy (propagated c l τ) = ground τ (getD (clauseAt cs c .literals) (l - 1) noLiteral)
-  litBy (decided c l b τ) = decidedLiteral (clauseAt cs c) (l - 1) b τ
+  abbrev pub literalBy : Origin → Literal
+  literalBy (propagated c l τ) = ground τ (getD (clauseAt cs c .literals) (l - 1) noLiteral)
+  literalBy (decided c l b τ) = decidedLiteral (clauseAt cs c) (l - 1) b τ
 
   abbrev pub atomsBy : Origin → List Atom
   atomsBy (propagated c l τ) = groundAtoms τ (clauseAt cs c .atoms)
   atomsBy (decided c l b τ) = []
 
   abbrev pub grown : Origin → Trail → Trail
-  grown m t = appendAtoms (atomsBy m) (foreground (litBy m) m ∷ t)
+  grown m t = appendAtoms (atomsBy m) (foreground (literalBy m) m ∷ t)
 
 module _ (nums : Numbers) (cs : List Clause) (n : ℕ) where
   abbrev pub StepOk : Trail → Origin → Type 0
@@ -105,7 +95,7 @@ module _ (nums : Numbers) (cs : List Clause) (n : ℕ) where
   pub record Below (t : Trail) (l : Literal) (m : Origin) (t₀ : Trail) : Type 0 where
     pub built : Built t
     pub ok : StepOk t m
-    pub lit : l ≡ litBy cs m
+    pub lit : l ≡ literalBy cs m
     pub has : (a : Atom) → List·Memᴰ a (atomsBy cs m) → List·Memᴰ a (atomsOf t₀)
 
 -- ---- replay
@@ -116,11 +106,11 @@ replay-step : (nums : Numbers) (s : State) (t : Trail) (m : Origin) → StepOk n
 replay-step nums s t (propagated c l τ) k = record {
   possible = true;
   decides = (λ _. k .1 .possible, λ _. tt);
-  checks = (k .1 .short, (tt, (and-i (clauseExists (clauses s) c) (literalExists (clauseAt (clauses s) c) l && instanceFits (s .constants) (clauseAt (clauses s) c) τ) (k .0) (k .1 .named), (k .1 .undefd, (k .1 .others, (tt, (k .1 .room, tt)))))));
-  is = ap (λ d. updated s (grown (clauses s) (propagated c l τ) t) d none) (decisions-push (groundAtoms τ (clauseAt (clauses s) c .atoms)) (foreground (litBy (clauses s) (propagated c l τ)) (propagated c l τ) ∷ t));
+  checks = (k .1 .short, (tt, (and-i (clauseExists (clauses s) c) (literalExists (clauseAt (clauses s) c) l && instanceFits (s .constants) (clauseAt (clauses s) c) τ) (k .0) (k .1 .named), (k .1 .undefined-yet, (k .1 .others, (tt, (k .1 .room, tt)))))));
+  is = ap (λ d. updated s (grown (clauses s) (propagated c l τ) t) d none) (decisions-push (groundAtoms τ (clauseAt (clauses s) c .atoms)) (foreground (literalBy (clauses s) (propagated c l τ)) (propagated c l τ) ∷ t));
 }
-replay-step nums s t (decided c l true τ) k = record { possible = true; decides = (λ _. possible-none nums (s .constants), λ _. tt); checks = (k .1 .short, (tt, (tt, (and-i (clauseExists (clauses s) c) (literalExists (clauseAt (clauses s) c) l && instanceFits (s .constants) (clauseAt (clauses s) c) τ) (k .0) (k .1 .named), (k .1 .undefd, (k .1 .room, tt)))))); is = refl }
-replay-step nums s t (decided c l false τ) k = record { possible = true; decides = (λ _. possible-none nums (s .constants), λ _. tt); checks = (k .1 .short, (tt, (tt, (and-i (clauseExists (clauses s) c) (literalExists (clauseAt (clauses s) c) l && instanceFits (s .constants) (clauseAt (clauses s) c) τ) (k .0) (k .1 .named), (k .1 .undefd, (k .1 .room, tt)))))); is = refl }
+replay-step nums s t (decided c l true τ) k = record { possible = true; decides = (λ _. possible-none nums (s .constants), λ _. tt); checks = (k .1 .short, (tt, (tt, (and-i (clauseExists (clauses s) c) (literalExists (clauseAt (clauses s) c) l && instanceFits (s .constants) (clauseAt (clauses s) c) τ) (k .0) (k .1 .named), (k .1 .undefined-yet, (k .1 .room, tt)))))); is = refl }
+replay-step nums s t (decided c l false τ) k = record { possible = true; decides = (λ _. possible-none nums (s .constants), λ _. tt); checks = (k .1 .short, (tt, (tt, (and-i (clauseExists (clauses s) c) (literalExists (clauseAt (clauses s) c) l && instanceFits (s .constants) (clauseAt (clauses s) c) τ) (k .0) (k .1 .named), (k .1 .undefined-yet, (k .1 .room, tt)))))); is = refl }
 
 -- An accepted step, as a run of one more step
 run-more : {nums : Numbers} {s s₁ s′ : State} {xs : List Step} (x : Step) → AcceptedRun nums s xs s₁ → Accepted nums s₁ x s′ → AcceptedRun nums s (xs ++ (x ∷ [])) s′
@@ -136,7 +126,7 @@ built-again {nums} s {t} (empty e) = subst (λ u. AcceptedRun nums (restarted s)
 built-again {nums} s {t} (group {t = u} m b k e) =
     subst (λ w. AcceptedRun nums (restarted s) (replayed w) (updated s w (decisions w) none)) (sym e)
     (subst (λ xs. AcceptedRun nums (restarted s) xs (updated s g (decisions g) none))
-    (sym (ap reverse (steps-push (atomsBy (clauses s) m) (foreground (litBy (clauses s) m) m ∷ u)) ∙ reverse-cons (stepOf m) (stepsOf u)))
+    (sym (ap reverse (steps-push (atomsBy (clauses s) m) (foreground (literalBy (clauses s) m) m ∷ u)) ∙ reverse-cons (stepOf m) (stepsOf u)))
     (run-more (stepOf m) (built-again s b) (replay-step nums s u m k)))
   where
     g : Trail
@@ -178,19 +168,19 @@ litOf d (background a ∷ t) = d
 module _ (nums : Numbers) (cs : List Clause) (n : ℕ) where
   pub below : {t₀ : Trail} {l : Literal} {m : Origin} {t : Trail} → Built nums cs n t₀ → Tail (foreground l m ∷ t) t₀ → Below nums cs n t l m t₀
   below {l} {m} {t} (empty e) h = absurd (tail-none (subst (Tail (foreground l m ∷ t)) e h))
-  below {t₀} {l} {m} {t} (group {t = u} m′ b k e) h = go (λ h. below b h) (tail-cases (foreground-push (atomsBy cs m′) (foreground (litBy cs m′) m′ ∷ u) (subst (Tail (foreground l m ∷ t)) e h)))
+  below {t₀} {l} {m} {t} (group {t = u} m′ b k e) h = go (λ h. below b h) (tail-cases (foreground-push (atomsBy cs m′) (foreground (literalBy cs m′) m′ ∷ u) (subst (Tail (foreground l m ∷ t)) e h)))
     where
-      go : (Tail (foreground l m ∷ t) u → Below nums cs n t l m u) → _≡_ {A = Trail} (foreground l m ∷ t) (foreground (litBy cs m′) m′ ∷ u) ⊎ Tail (foreground l m ∷ t) u → Below nums cs n t l m t₀
+      go : (Tail (foreground l m ∷ t) u → Below nums cs n t l m u) → _≡_ {A = Trail} (foreground l m ∷ t) (foreground (literalBy cs m′) m′ ∷ u) ⊎ Tail (foreground l m ∷ t) u → Below nums cs n t l m t₀
       go ih (inl p) =
-          let e₁ : l ≡ litBy cs m′ = cc in
+          let e₁ : l ≡ literalBy cs m′ = cc in
           let e₂ : m ≡ m′ = cc in
           let e₃ : t ≡ u = cc in
           record {
             built = subst (Built nums cs n) (sym e₃) b;
             ok = subst (λ w. StepOk nums cs n w m) (sym e₃) (subst (λ w. StepOk nums cs n u w) (sym e₂) k);
-            lit = e₁ ∙ ap (litBy cs) (sym e₂);
-            has = λ a q. subst (λ w. List·Memᴰ a (atomsOf w)) (sym e) (pushed (atomsBy cs m′) (foreground (litBy cs m′) m′ ∷ u) (subst (λ w. List·Memᴰ a (atomsBy cs w)) e₂ q));
+            lit = e₁ ∙ ap (literalBy cs) (sym e₂);
+            has = λ a q. subst (λ w. List·Memᴰ a (atomsOf w)) (sym e) (pushed (atomsBy cs m′) (foreground (literalBy cs m′) m′ ∷ u) (subst (λ w. List·Memᴰ a (atomsBy cs w)) e₂ q));
           }
       go ih (inr h) =
           let r = ih h in
-          record { built = r .built; ok = r .ok; lit = r .lit; has = λ a q. subst (λ w. List·Memᴰ a (atomsOf w)) (sym e) (atoms-push (atomsBy cs m′) (foreground (litBy cs m′) m′ ∷ u) (r .has a q)) }
+          record { built = r .built; ok = r .ok; lit = r .lit; has = λ a q. subst (λ w. List·Memᴰ a (atomsOf w)) (sym e) (atoms-push (atomsBy cs m′) (foreground (literalBy cs m′) m′ ∷ u) (r .has a q)) }

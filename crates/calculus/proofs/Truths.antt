@@ -1,4 +1,4 @@
--- Truth of a clause in a reading, and what merging, resolving and factorizing do to it.
+-- What is true under a reading: merging, the reason, the resolvent and the factored conflict keep it.
 use mathlib.Core.Path.{_∙_, _≡_, ap, refl, subst, sym}
 use mathlib.Core.Logic.{_⊎_, inl, inr}
 use mathlib.Core.List.{List, List·Memᴰ, List·Memᴰ·cases-cons, List·Memᴰ·head, List·Memᴰ·not-nil, List·Memᴰ·tail, Memᴰ·append-left, Memᴰ·append-right, Memᴰ·map, [], _++_, _∷_, map}
@@ -23,7 +23,7 @@ pub signed-clash : (b : Bool) (P : Type 0) → signed b P → signed (not b) P �
 signed-clash true P p n = n p
 signed-clash false P n p = n p
 
--- l and m can be merged: the same but for their arguments
+-- L and m can be merged: the same but for their arguments
 pub record Alike (l m : Literal) : Type 0 where
   pub signs : l .positive ≡ m .positive
   pub predicates : l .predicate ≡ m .predicate
@@ -44,7 +44,7 @@ module _ (nums : Numbers) (arities : List ℕ) where
       (λ l m t. hl (renameLiteral (λ x. indexOf x ks) (renameLiteral (under σ) l)) (Memᴰ·map (renameLiteral (λ x. indexOf x ks)) (Memᴰ·map (renameLiteral (under σ)) m))
       t)
 
-  -- two literals with the same sign and predicate, and arguments that ρ reads alike
+  -- Two literals with the same sign and predicate, and arguments that ρ reads alike
   literal-same : (I : Reading nums arities) (ρ : ℕ → nums .Number) (l m : Literal) → l .positive ≡ m .positive → l .predicate ≡ m .predicate → map ρ (arguments l) ≡ map ρ (arguments m) → LiteralHolds nums arities I ρ l → LiteralHolds nums arities I ρ m
   literal-same I ρ l m e f g t = subst (λ (X : Type 0). X) (λ i. signed (e i) (I (f i) (take (arityOf arities (f i)) (g i)))) t
 
@@ -68,7 +68,7 @@ module _ (nums : Numbers) (arities : List ℕ) where
               (literal-same I ρ hi lo (k .signs) (k .predicates) (sym (pairUp-eq ρ (arguments lo) (arguments hi) refl e)) (subst (LiteralHolds nums arities I ρ) p t))
           other l (inr m) t = hl l m t
 
-  -- the resolvent
+  -- The resolvent
   pub resolvent-true : (I : Reading nums arities) (N : Instanced) (j : ℕ) (R : Instanced) (i : ℕ) → Alike (getD (N .clause .literals) j noLiteral) (complement (getD (R .clause .literals) i noLiteral))
       → True nums arities I (N .clause) → True nums arities I (R .clause) → True nums arities I (resolvent N j R i .clause)
   unfolding resolvent merge

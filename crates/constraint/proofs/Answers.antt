@@ -22,10 +22,10 @@ use Rattle.constraint.proofs.Stands.{stands-values, stands-none}
 use Rattle.constraint.proofs.Steps.{place-p, place-q, within-c}
 
 -- Values shifted until place 0 has zero.
-shifted-rises : (x y z : ℤ) → x ≤ℤ (negsuc 0 +ℤ y) → (x -ℤ z) <ℤ (y -ℤ z)
+pub shifted-rises : (x y z : ℤ) → x ≤ℤ (negsuc 0 +ℤ y) → (x -ℤ z) <ℤ (y -ℤ z)
 shifted-rises x y z h = →lt (x -ℤ z) (y -ℤ z) (omega (arith, le→ h, sum (negsuc 0) y, sum x (negℤ z), sum y (negℤ z)))
 
-shifted-holds : (x y z c : ℤ) → x ≤ℤ (c +ℤ y) → ((x -ℤ z) -ℤ (y -ℤ z)) ≤ℤ c
+pub shifted-holds : (x y z c : ℤ) → x ≤ℤ (c +ℤ y) → ((x -ℤ z) -ℤ (y -ℤ z)) ≤ℤ c
 shifted-holds x y z c h = →le ((x -ℤ z) -ℤ (y -ℤ z)) c
     (omega (arith, le→ h, sum c y, sum x (negℤ z), sum y (negℤ z), negated (y -ℤ z), sum (x -ℤ z) (negℤ (y -ℤ z))))
 

@@ -18,58 +18,60 @@ use Rattle.bounds.specs.Squares.{Keeps, KeepsAll, Closed}
 use Rattle.bounds.proofs.Same.{closed-same, keeps-same}
 use Rattle.constraint.specs.Square.{places, far, at, entry, Stands, Near}
 
-abbrev pub bare : ℕ → ℕ → ℤ
-bare i j = cond (eqb i j) (pos 0) (pos far)
+-- Over any far bound
+module _ (far : ℕ) where
+  abbrev pub bare : ℕ → ℕ → ℤ
+  bare i j = cond (eqb i j) (pos 0) (pos far)
 
-bare-same : (i j : ℕ) → i ≡ j → bare i j ≡ pos 0
-bare-same i j e = ap (λ (b : Bool). cond b (pos 0) (pos far)) (eq-eqb i j e)
+  bare-same : (i j : ℕ) → i ≡ j → bare i j ≡ pos 0
+  bare-same i j e = ap (λ (b : Bool). cond b (pos 0) (pos far)) (eq-eqb i j e)
 
-bare-other : (i j : ℕ) → ¬ (i ≡ j) → bare i j ≡ pos far
-bare-other i j e = ap (λ (b : Bool). cond b (pos 0) (pos far)) (ne-eqb i j e)
+  bare-other : (i j : ℕ) → ¬ (i ≡ j) → bare i j ≡ pos far
+  bare-other i j e = ap (λ (b : Bool). cond b (pos 0) (pos far)) (ne-eqb i j e)
 
--- Both entries are from 0 to far.
-sides : (i j : ℕ) → (over (bare i j) ≤ far) × (under (bare i j) ≡ 0)
-sides i j = go (eqb i j)
-  where
-    go : (b : Bool) → (over (cond b (pos 0) (pos far)) ≤ far) × (under (cond b (pos 0) (pos far)) ≡ 0)
-    go true = (omega arith, refl)
-    go false = (omega arith, refl)
+  -- Both entries are from 0 to far.
+  sides : (i j : ℕ) → (over (bare i j) ≤ far) × (under (bare i j) ≡ 0)
+  sides i j = go (eqb i j)
+    where
+      go : (b : Bool) → (over (cond b (pos 0) (pos far)) ≤ far) × (under (cond b (pos 0) (pos far)) ≡ 0)
+      go true = (omega arith, refl)
+      go false = (omega arith, refl)
 
--- From i to j by k costs far at least once, unless i is j.
-bare-through : (i k j : ℕ) → bare i j ≤ℤ (bare i k +ℤ bare k j)
-bare-through i k j = →le (bare i j) (bare i k +ℤ bare k j) (elim (ℕ-discrete i j) [
-  | yes e ↦ omega (arith, sum (bare i k) (bare k j), ap over (bare-same i j e), sides i j, sides i k, sides k j)
-  | no e ↦ elim (ℕ-discrete i k) [
-    | yes f ↦ omega (arith, sum (bare i k) (bare k j), sides i j, sides i k, sides k j, ap over (bare-other k j (λ g. e (f ∙ g))))
-    | no f ↦ omega (arith, sum (bare i k) (bare k j), sides i j, sides i k, sides k j, ap over (bare-other i k f))
-  ]
-])
+  -- From i to j by k costs far at least once, unless i is j.
+  bare-through : (i k j : ℕ) → bare i j ≤ℤ (bare i k +ℤ bare k j)
+  bare-through i k j = →le (bare i j) (bare i k +ℤ bare k j) (elim (ℕ-discrete i j) [
+    | yes e ↦ omega (arith, sum (bare i k) (bare k j), ap over (bare-same i j e), sides i j, sides i k, sides k j)
+    | no e ↦ elim (ℕ-discrete i k) [
+      | yes f ↦ omega (arith, sum (bare i k) (bare k j), sides i j, sides i k, sides k j, ap over (bare-other k j (λ g. e (f ∙ g))))
+      | no f ↦ omega (arith, sum (bare i k) (bare k j), sides i j, sides i k, sides k j, ap over (bare-other i k f))
+    ]
+  ])
 
-bare-closed : Closed wholeBounds places bare
-bare-closed = record { diagonal = λ i hi. bare-same i i refl; through = λ i k j hi hk hj. bare-through i k j }
+  pub bare-closed : (m : ℕ) → Closed wholeBounds m bare
+  bare-closed m = record { diagonal = λ i hi. bare-same i i refl; through = λ i k j hi hk hj. bare-through i k j }
 
-on-diagonal : (v : ℕ → ℤ) (i j : ℕ) → i ≡ j → Keeps wholeBounds v i j (bare i j)
-on-diagonal v i j e = →le (v i) (bare i j +ℤ v j) (omega (arith, sum (bare i j) (v j), ap over (bare-same i j e), sides i j, ap (λ (n : ℕ). over (v n)) e, ap (λ (n : ℕ). under (v n)) e))
+  on-diagonal : (v : ℕ → ℤ) (i j : ℕ) → i ≡ j → Keeps wholeBounds v i j (bare i j)
+  on-diagonal v i j e = →le (v i) (bare i j +ℤ v j) (omega (arith, sum (bare i j) (v j), ap over (bare-same i j e), sides i j, ap (λ (n : ℕ). over (v n)) e, ap (λ (n : ℕ). under (v n)) e))
 
-near-of : (v : ℕ → ℤ) (i j : ℕ) → Keeps wholeBounds v i j (bare i j) → Keeps wholeBounds v i j (pos far)
-near-of v i j h = →le (v i) (pos far +ℤ v j) (omega (arith, le→ h, sum (bare i j) (v j), sum (pos far) (v j), sides i j))
+  pub near-of : (v : ℕ → ℤ) (i j : ℕ) → Keeps wholeBounds v i j (bare i j) → Keeps wholeBounds v i j (pos far)
+  near-of v i j h = →le (v i) (pos far +ℤ v j) (omega (arith, le→ h, sum (bare i j) (v j), sum (pos far) (v j), sides i j))
 
-bare-kept : (v : ℕ → ℤ) → Near v → KeepsAll wholeBounds places bare v
-bare-kept v h i j hi hj = elim (ℕ-discrete i j) [ yes e ↦ on-diagonal v i j e | no e ↦ subst (Keeps wholeBounds v i j) (sym (bare-other i j e)) (h i j hi hj) ]
+  pub bare-kept : (m : ℕ) (v : ℕ → ℤ) → ((i j : ℕ) → i < m → j < m → Keeps wholeBounds v i j (pos far)) → KeepsAll wholeBounds m bare v
+  bare-kept m v h i j hi hj = elim (ℕ-discrete i j) [ yes e ↦ on-diagonal v i j e | no e ↦ subst (Keeps wholeBounds v i j) (sym (bare-other i j e)) (h i j hi hj) ]
 
-pub bare-stands : (t : List (List ℤ)) → ((i j : ℕ) → i < places → j < places → entry t i j ≡ bare i j) → Stands Near t
+pub bare-stands : (t : List (List ℤ)) → ((i j : ℕ) → i < places → j < places → entry t i j ≡ bare far i j) → Stands Near t
 bare-stands t is = record {
   sound = record {
-    closed = closed-same wholeBounds places bare (entry t) is bare-closed;
-    small = λ i j hi hj. subst (Within far) (sym (is i j hi hj)) (record { above = omega (arith, sides i j); below = omega (arith, sides i j) });
+    closed = closed-same wholeBounds places (bare far) (entry t) is (bare-closed far places);
+    small = λ i j hi hj. subst (Within far) (sym (is i j hi hj)) (record { above = omega (arith, sides far i j); below = omega (arith, sides far i j) });
   };
-  exact = λ v. let same = keeps-same wholeBounds places bare (entry t) is v in
-      (λ h i j hi hj. near-of v i j (same .0 h i j hi hj), λ h. same .1 (bare-kept v h));
+  exact = λ v. let same = keeps-same wholeBounds places (bare far) (entry t) is v in
+      (λ h i j hi hj. near-of far v i j (same .0 h i j hi hj), λ h. same .1 (bare-kept far places v h));
 }
 
 -- A row of the bare square, from a row that has far everywhere.
-pub bare-row : (i j : ℕ) → i < places → j < places → at (set (replicate places (pos far)) i (pos 0)) j ≡ bare i j
+pub bare-row : (i j : ℕ) → i < places → j < places → at (set (replicate places (pos far)) i (pos 0)) j ≡ bare far i j
 bare-row i j hi hj = elim (ℕ-discrete i j) [
-  | yes e ↦ subst (λ (n : ℕ). at (set (replicate places (pos far)) i (pos 0)) n ≡ pos 0) e (getD-set-same (replicate places (pos far)) i (pos 0) (pos 0) hi) ∙ sym (bare-same i j e)
-  | no e ↦ getD-set-other (replicate places (pos far)) i j (pos 0) (pos 0) (λ f. e (sym f)) ∙ getD-replicate places j (pos far) (pos 0) hj ∙ sym (bare-other i j e)
+  | yes e ↦ subst (λ (n : ℕ). at (set (replicate places (pos far)) i (pos 0)) n ≡ pos 0) e (getD-set-same (replicate places (pos far)) i (pos 0) (pos 0) hi) ∙ sym (bare-same far i j e)
+  | no e ↦ getD-set-other (replicate places (pos far)) i j (pos 0) (pos 0) (λ f. e (sym f)) ∙ getD-replicate places j (pos far) (pos 0) hj ∙ sym (bare-other far i j e)
 ]

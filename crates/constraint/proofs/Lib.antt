@@ -6,3 +6,4 @@ pub mod Bare
 pub mod Steps
 pub mod Answers
 pub mod Refusals
+pub mod Decided

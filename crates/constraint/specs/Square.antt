@@ -2,7 +2,7 @@
 -- The promise is in Test and needs nothing of this.
 use mathlib.Core.List.{List, []}
 use mathlib.Core.Logic.{_↔_}
-use Prim.Native.Nat.{ℕ, zero, suc, _≤_, _<_}
+use Prim.Native.Nat.{ℕ, zero, suc, _+_, _*_, _≤_, _<_}
 use lib.ListN.{getD}
 use lib.IntN.{ℤ, pos, negsuc, _+ℤ_}
 use mir.Syntax.{w64}
@@ -22,17 +22,17 @@ places = 17
 abbrev pub mostBound : ℕ
 mostBound = 1000001
 
--- The bound that stands in place of none: 17 times the largest. Values can be drawn together until they keep it.
+-- The bound that stands in place of none, 17,000,017: values can be drawn together until none lie further apart.
 abbrev pub far : ℕ
-far = 17000017
+far = places * mostBound
 
--- The largest sum of a bound of the square and the one put in, ..
+-- The largest sum of a bound of the square and the one put in, 18,000,018, ..
 abbrev pub mostChain : ℕ
-mostChain = 18000018
+mostChain = far + mostBound
 
--- .. and of these and a second bound of the square: no sum that the test forms is larger.
+-- .. and of these and a second bound of the square, 35,000,035: no sum that the test forms is larger.
 abbrev pub mostSum : ℕ
-mostSum = 35000035
+mostSum = mostChain + far
 
 -- The bound at j of a row, and at i and j of the square.
 abbrev pub at : List ℤ → ℕ → ℤ

@@ -1,3 +1,5 @@
+// The constraint test. It works on a square of bounds between every two of 17 places, closed after each bound that is put in:
+// the order of the constants first, then the atoms one by one, until one closes a chain below zero or all are in.
 ghost use mathlib.Core.Path.{_≡_};
 ghost use Prim.Native.Nat.{ℕ, _<_, _≤_};
 ghost use lib.ListN.{take};

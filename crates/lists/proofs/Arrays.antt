@@ -1,12 +1,12 @@
 -- Laws of a list held in an array, and of an array changed slot by slot.
-use mathlib.Core.Path.{_≡_, refl, sym, _∙_, ap}
-use mathlib.Core.List.{List, [], _∷_, _++_, map}
-use Prim.Native.Nat.{ℕ, zero, suc, _+_, _≤_, _<_}
-use native.Mathlib.Omega.{arith}
+use mathlib.Core.Path.{_∙_, _≡_, ap, refl, sym}
+use mathlib.Core.List.{List, [], _++_, _∷_, map}
+use Prim.Native.Nat.{_+_, _<_, _≤_, suc, zero, ℕ}
 use native.Mathlib.Numerals.{add-one}
-use lib.ListN.{length, getD, set, take, drop, replicate, length-map, length-take}
+use native.Mathlib.Omega.{arith}
+use lib.ListN.{drop, getD, length, length-map, length-take, replicate, set, take}
+use Rattle.lists.proofs.Walks.{map-more, take-more}
 use Rattle.lists.specs.Arrays.{exactly}
-use Rattle.lists.proofs.Walks.{take-more, map-more}
 
 module _ {A : Type 0} (d : A) where
   pub exactly-length : (n : ℕ) (l : List A) → length (exactly n d l) ≡ n
@@ -41,6 +41,13 @@ module _ {A : Type 0} (d : A) where
   set-exactly zero l x h = absurd (omega arith)
   set-exactly (suc n) [] x h = refl
   set-exactly (suc n) (y ∷ l) x h = ap {B = List A} (λ r. y ∷ r) (set-exactly n l x (omega arith))
+
+  -- The last element taken out again
+  pub unset-exactly : (n : ℕ) (l : List A) (x : A) → set (exactly n d (l ++ (x ∷ []))) (length l) d ≡ exactly n d l
+  unfolding exactly
+  unset-exactly zero l x = refl
+  unset-exactly (suc n) [] x = refl
+  unset-exactly (suc n) (y ∷ l) x = ap {B = List A} (λ r. y ∷ r) (unset-exactly n l x)
 
   pub getD-exactly : (n : ℕ) (l : List A) (i : ℕ) → i < n → getD (exactly n d l) i d ≡ getD l i d
   unfolding exactly

@@ -1,5 +1,6 @@
 -- Truth values as evidence: what a test says, and what `&&`, `||` and the tests of equality say.
 use mathlib.Core.Path.{_≡_, ap, refl, subst}
+use mathlib.Core.Logic.{_⊎_, inl, inr}
 use mathlib.Core.List.{List, [], _∷_}
 use mathlib.Core.Bool.{Bool, Bool·beq, _&&_, _||_, false, not, true}
 use Prim.Native.Nat.{ℕ}
@@ -79,3 +80,8 @@ beq→eq false false t = refl
 pub beq-refl : (a : Bool) → T (Bool·beq a a)
 beq-refl true = tt
 beq-refl false = tt
+
+pub or-either : (a b : Bool) → T a ⊎ T b → T (a || b)
+or-either true b h = tt
+or-either false b (inl h) = absurd h
+or-either false b (inr h) = h

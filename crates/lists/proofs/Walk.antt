@@ -1,10 +1,10 @@
 -- How the invariant of a storing loop begins, and how it goes on: by a store, or by leaving the place as it is.
-use mathlib.Core.Path.{refl, sym, _∙_, subst}
+use mathlib.Core.Path.{_∙_, refl, subst, sym}
 use mathlib.Core.List.{List}
-use Prim.Native.Nat.{ℕ, _+_, _<_}
+use Prim.Native.Nat.{_+_, _<_, ℕ}
 use native.Mathlib.Omega.{arith}
-use lib.ListN.{length, getD, set, length-set}
-use lib.Seq.{getD-set-same, getD-set-other}
+use lib.ListN.{getD, length, length-set, set}
+use lib.Seq.{getD-set-other, getD-set-same}
 use borrow.Author.Count.{below-more}
 use Rattle.lists.specs.Walk.{Upto}
 

@@ -1,14 +1,14 @@
 -- One element more at the end: what each walk over the first elements of an array does at its next turn.
-use mathlib.Core.Path.{_≡_, refl, sym, _∙_, ap, ap₂}
-use mathlib.Core.List.{List, [], _∷_, _++_, map, append-nil, map-append}
-use mathlib.Core.Bool.{Bool, true, false, _&&_, _||_, cond}
-use Prim.Native.Nat.{ℕ, zero, suc, _+_, _≤_, _<_}
-use native.Mathlib.Omega.{arith}
+use mathlib.Core.Path.{_∙_, _≡_, ap, ap₂, refl}
+use mathlib.Core.List.{List, [], _++_, _∷_, map, map-append}
+use mathlib.Core.Bool.{Bool, _&&_, _||_, cond, false, true}
+use Prim.Native.Nat.{_+_, _<_, _≤_, suc, zero, ℕ}
 use native.Mathlib.Numerals.{add-one}
-use lib.Dec.{eqb, eqb·zero-suc, eqb·suc-zero, eqb·suc-suc}
-use lib.ListN.{length, getD, take}
+use native.Mathlib.Omega.{arith}
+use lib.Dec.{eqb, eqb·suc-suc, eqb·suc-zero, eqb·zero-suc}
+use lib.ListN.{getD, length, take}
 use lib.Seq.{take-suc}
-use Rattle.lists.specs.Lists.{upFrom, keepIf, anyOf, allOf, without}
+use Rattle.lists.specs.Lists.{allOf, anyOf, keepIf, upFrom, without}
 
 module _ {A : Type 0} where
   pub take-more : (l : List A) (j : ℕ) (d : A) → j < length l → take (j + 1) l ≡ take j l ++ (getD l j d ∷ [])

@@ -16,7 +16,7 @@ use Rattle.constraint.proofs.bare_square.Tie as tie
 -- The bare square: after i turns the first i rows have their 0 on the diagonal.
 
 abbrev Inv-loop : tie.InvT-loop
-Inv-loop t₀ i₀ t i = (i ≤ places) × (t₀ ≡ replicate places (replicate places (pos far))) × Upto [] (λ k row. (j : ℕ) → j < places → at row j ≡ bare k j) t₀ t i
+Inv-loop t₀ i₀ t i = (i ≤ places) × (t₀ ≡ replicate places (replicate places (pos far))) × Upto [] (λ k row. (j : ℕ) → j < places → at row j ≡ bare far k j) t₀ t i
 
 abbrev μ-loop : tie.MeasureT-loop
 μ-loop t₀ i₀ t i = places - i

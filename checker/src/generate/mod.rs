@@ -1,0 +1,27 @@
+//! The seeded generator of run files.
+//!
+//! A file comes of a kind: what its input looks like ([`problem`]) and how it is played ([`player`]).
+//! [`kinds`] differ in what they reach: many conflicts on few constants, bounds that lie close, wide
+//! clauses, full trails, many learned clauses, long runs, the longest file. One file of five is damaged
+//! ([`damage`]).
+
+mod damage;
+mod kinds;
+mod player;
+mod problem;
+mod sets;
+
+use crate::file::write;
+use crate::random::Random;
+pub use sets::random_set;
+
+/// The run file of that seed.
+pub fn generate(seed: u64) -> Vec<u8> {
+    let mut random = Random::new(seed);
+    let file = kinds::run_file(&mut random);
+    if random.percent(20) {
+        damage::damaged(&mut random, &file)
+    } else {
+        write(&file).bytes
+    }
+}

@@ -1,0 +1,23 @@
+//! An independent checker of SCL(T) run files, in plain Rust, written from document 01.
+//!
+//! The checker: [`clause`], [`constraint`], [`merge`], [`state`], [`step`], [`rules`] are the
+//! calculus, [`file`] and [`admission`] its two ways in, [`listing`] what is printed.
+//!
+//! The tests of others: [`generate`] makes run files, [`coverage`] counts what they come to, [`smt`] puts
+//! questions to a solver.
+
+pub mod admission;
+pub mod clause;
+pub mod constraint;
+pub mod coverage;
+pub mod file;
+pub mod generate;
+pub mod limits;
+pub mod listing;
+pub mod merge;
+pub mod random;
+pub mod refusal;
+pub mod rules;
+pub mod smt;
+pub mod state;
+pub mod step;

@@ -1,0 +1,131 @@
+//! `checker`: makes run files, counts what they come to, and puts questions to a solver.
+
+use checker::constraint;
+use checker::coverage::Coverage;
+use checker::generate::{generate, random_set};
+use checker::listing::{run, Verdict};
+use checker::smt;
+use std::fs;
+use std::io::{self, Write};
+use std::path::Path;
+use std::process::ExitCode;
+
+const USAGE: &str = "\
+usage: checker generate SEED COUNT DIR    writes COUNT run files to DIR, named by their seeds
+       checker coverage SEED COUNT        runs COUNT files and prints what they come to
+       checker sets SEED COUNT            prints for COUNT sets of atoms the test's answer, sat or unsat
+       checker ask-sets SEED COUNT        prints the same sets as questions to a solver
+       checker ask-refuted SEED COUNT     prints, for each refuted run of COUNT files, a question for a
+                                          model of its input clauses
+       checker ask-learned SEED COUNT     prints, for each learned clause of COUNT files, a question for
+                                          a model of the input clauses in which it does not hold
+
+SEED is the first of COUNT seeds, one after the other.";
+
+/// The solver's time for one question, in milliseconds.
+const TIME: usize = 1_000;
+
+fn main() -> ExitCode {
+    let words: Vec<String> = std::env::args().skip(1).collect();
+    let words: Vec<&str> = words.iter().map(String::as_str).collect();
+    match command(&words) {
+        Ok(code) => code,
+        Err(error) => {
+            eprintln!("checker: {error}");
+            ExitCode::FAILURE
+        }
+    }
+}
+
+fn command(words: &[&str]) -> io::Result<ExitCode> {
+    let (word, seed, count, rest) = match words {
+        [word, seed, count, rest @ ..] => (*word, number(seed)?, number(count)?, rest),
+        _ => return Err(io::Error::other(USAGE)),
+    };
+    let seeds = seed..seed.saturating_add(count);
+    let mut out = io::stdout().lock();
+    match (word, rest) {
+        ("generate", [dir]) => generate_files(seeds, Path::new(dir))?,
+        ("coverage", []) => return coverage(seeds, &mut out),
+        ("sets", []) => answer_sets(seeds, &mut out)?,
+        ("ask-sets", []) => ask_sets(seeds, &mut out)?,
+        ("ask-refuted", []) => ask_refuted(seeds, &mut out)?,
+        ("ask-learned", []) => ask_learned(seeds, &mut out)?,
+        _ => return Err(io::Error::other(USAGE)),
+    }
+    Ok(ExitCode::SUCCESS)
+}
+
+type Seeds = std::ops::Range<u64>;
+
+fn number(word: &str) -> io::Result<u64> {
+    word.parse().map_err(|_| io::Error::other(format!("not a number: {word}")))
+}
+
+fn generate_files(seeds: Seeds, dir: &Path) -> io::Result<()> {
+    fs::create_dir_all(dir)?;
+    for seed in seeds {
+        fs::write(dir.join(format!("{seed}.drf")), generate(seed))?;
+    }
+    Ok(())
+}
+
+fn coverage(seeds: Seeds, out: &mut impl Write) -> io::Result<ExitCode> {
+    let mut coverage = Coverage::default();
+    for seed in seeds {
+        coverage.run(&generate(seed));
+    }
+    out.write_all(coverage.report().as_bytes())?;
+    Ok(if coverage.is_complete() { ExitCode::SUCCESS } else { ExitCode::FAILURE })
+}
+
+fn answer_sets(seeds: Seeds, out: &mut impl Write) -> io::Result<()> {
+    for seed in seeds {
+        let (constants, atoms) = random_set(seed);
+        let possible = constraint::test(constants, &atoms).expect("a set the test takes");
+        writeln!(out, "{}", if possible { "sat" } else { "unsat" })?;
+    }
+    Ok(())
+}
+
+fn ask_sets(seeds: Seeds, out: &mut impl Write) -> io::Result<()> {
+    for seed in seeds {
+        let (constants, atoms) = random_set(seed);
+        write!(out, "(reset)\n{}", smt::set_question(constants, &atoms))?;
+    }
+    Ok(())
+}
+
+/// A question begins with a line that makes the solver print its name.
+fn ask(name: &str, text: &str, out: &mut impl Write) -> io::Result<()> {
+    write!(out, "(reset)\n(set-option :timeout {TIME})\n(echo \"{name}\")\n{text}(check-sat)\n")
+}
+
+fn ask_refuted(seeds: Seeds, out: &mut impl Write) -> io::Result<()> {
+    for seed in seeds {
+        let Ok(run) = run(&generate(seed)) else { continue };
+        if run.verdict() == Verdict::Refuted {
+            let theory = smt::theory(&run.state.arities, &run.state.input);
+            ask(&format!("seed {seed}"), &theory, out)?;
+        }
+    }
+    Ok(())
+}
+
+fn ask_learned(seeds: Seeds, out: &mut impl Write) -> io::Result<()> {
+    for seed in seeds {
+        let Ok(run) = run(&generate(seed)) else { continue };
+        let theory = smt::theory(&run.state.arities, &run.state.input);
+        for (index, clause) in run.state.learned.iter().enumerate() {
+            // A clause that is held already says nothing new.
+            let earlier = &run.state.learned[..index];
+            if run.state.input.contains(clause) || earlier.contains(clause) {
+                continue;
+            }
+            let number = run.state.input.len() + index + 1;
+            let text = theory.clone() + &smt::denial(clause);
+            ask(&format!("seed {seed} clause {number}"), &text, out)?;
+        }
+    }
+    Ok(())
+}

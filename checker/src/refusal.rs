@@ -1,0 +1,28 @@
+//! Refusals: "a number (0 for accepted) and a place".
+
+/// The number by which something is refused, and the place that goes with it.
+#[derive(Clone, Copy, Debug, PartialEq, Eq)]
+pub struct Refusal {
+    pub number: u8,
+    pub place: usize,
+}
+
+impl Refusal {
+    pub fn new(number: u8, place: usize) -> Refusal {
+        Refusal { number, place }
+    }
+
+    /// "every other answer to a step has place 0"
+    pub fn of_step(number: u8) -> Refusal {
+        Refusal { number, place: 0 }
+    }
+}
+
+/// `Ok` when `condition` holds, else the refusal.
+pub fn demand(condition: bool, refusal: Refusal) -> Result<(), Refusal> {
+    if condition {
+        Ok(())
+    } else {
+        Err(refusal)
+    }
+}

@@ -1,0 +1,323 @@
+//! The eight rules. "A step's reasons are tried in rising order": each rule asks for them one after
+//! the other and leaves at the first that refuses. A refused step leaves the state as it was.
+
+use crate::clause::{Atom, Clause, Closure, Literal};
+use crate::constraint;
+use crate::limits;
+use crate::merge::{merged, Groups};
+use crate::refusal::{demand, Refusal};
+use crate::state::{Entry, Origin, State};
+use crate::step::Step;
+
+/// The answers each rule can give, 0 for accepted. 17 can't happen.
+pub const ANSWERS: [(u8, &[u8]); 8] = [
+    (1, &[0, 9, 10, 11, 12, 13, 18]),
+    (2, &[0, 9, 10, 11, 18]),
+    (3, &[0, 9, 10, 12, 13]),
+    (4, &[0, 9, 10, 14, 15, 18]),
+    (5, &[0, 9, 10, 15]),
+    (6, &[0, 9, 14, 15]),
+    (7, &[0, 9, 10, 15, 16, 18]),
+    (8, &[0, 9, 10, 18]),
+];
+
+/// What an accepted step changes in the state.
+#[derive(Clone, Debug, PartialEq, Eq)]
+pub enum Change {
+    /// Propagate: the entries are appended.
+    Propagated(Vec<Entry>),
+    /// Decide: the entry is appended, k grows by one.
+    Decided(Entry),
+    /// Conflict, Resolve, Factorize: the conflict now standing.
+    Conflict(Closure),
+    /// Skip: the last entry goes.
+    Skipped,
+    /// Backtrack: the trail is cut to a length, the entries are appended, k is the level.
+    Learned { kept: usize, entries: Vec<Entry>, level: usize },
+    /// Grow: so many constants are added.
+    Grown(usize),
+}
+
+impl State {
+    /// Takes a proposed step: the state becomes the next one, or stays as it is if the step is
+    /// refused.
+    pub fn take(&mut self, step: &Step) -> Result<(), Refusal> {
+        let change = self.judge(step)?;
+        self.apply(change);
+        Ok(())
+    }
+
+    /// What a proposed step would change, or the refusal.
+    pub fn judge(&self, step: &Step) -> Result<Change, Refusal> {
+        match step {
+            Step::Propagate { clause, literal, instance } => {
+                self.propagate(*clause, *literal, instance)
+            }
+            Step::Decide { clause, literal, positive, instance } => {
+                self.decide(*clause, *literal, *positive, instance)
+            }
+            Step::Conflict { clause, instance } => self.conflict(*clause, instance),
+            Step::Resolve { literal } => self.resolve(*literal),
+            Step::Factorize { first, second } => self.factorize(*first, *second),
+            Step::Skip => self.skip(),
+            Step::Backtrack { literal } => self.backtrack(*literal),
+            Step::Grow { count } => self.grow(*count),
+        }
+    }
+
+    /// Makes a change that [`State::judge`] found for this state.
+    pub fn apply(&mut self, change: Change) {
+        match change {
+            Change::Propagated(entries) => self.trail.extend(entries),
+            Change::Decided(entry) => {
+                self.trail.push(entry);
+                self.level += 1;
+            }
+            Change::Conflict(conflict) => self.conflict = Some(conflict),
+            Change::Skipped => {
+                let last = self.trail.pop();
+                // "A decision skipped lowers k by one."
+                self.level -= last.is_some_and(|entry| entry.is_decision()) as usize;
+            }
+            Change::Learned { kept, entries, level } => {
+                self.trail.truncate(kept);
+                self.trail.extend(entries);
+                self.learned.extend(self.conflict.take().map(|conflict| conflict.clause));
+                self.level = level;
+            }
+            Change::Grown(count) => {
+                self.constants += count;
+                self.trail.clear();
+                self.level = 0;
+            }
+        }
+    }
+
+    /// "**1 Propagate** (clause, literal L, instance)."
+    fn propagate(&self, clause: u8, literal: u8, instance: &[u8]) -> Result<Change, Refusal> {
+        self.demand_no_conflict()?;
+        let held = self.demand_clause(clause, instance)?;
+        let own = demand_literal(held, literal)?.at(instance);
+        // "L's instance is undefined"
+        demand(self.is_undefined(&own), Refusal::of_step(11))?;
+        // "every literal with another instance is false"
+        self.demand_false(held, instance, Some(&own))?;
+        // "trail atoms and the clause's atoms together are possible"
+        let atoms = held.ground_atoms(instance);
+        demand(self.possible_with(self.trail.len(), &atoms), Refusal::of_step(13))?;
+        let origin = Origin { decision: false, clause, literal, instance: instance.to_vec() };
+        let entries = self.propagated(self.trail.len(), own, origin, &atoms);
+        demand(self.trail.len() + entries.len() <= limits::TRAIL, Refusal::of_step(18))?;
+        Ok(Change::Propagated(entries))
+    }
+
+    /// "**2 Decide** (clause, literal, sign, instance)."
+    fn decide(
+        &self,
+        clause: u8,
+        literal: u8,
+        positive: bool,
+        instance: &[u8],
+    ) -> Result<Change, Refusal> {
+        self.demand_no_conflict()?;
+        let held = self.demand_clause(clause, instance)?;
+        let own = demand_literal(held, literal)?.at(instance);
+        // "The atom of the literal, with the sign given, is undefined."
+        let decided = Literal { positive, ..own };
+        demand(self.is_undefined(&decided), Refusal::of_step(11))?;
+        demand(self.trail.len() < limits::TRAIL, Refusal::of_step(18))?;
+        let origin = Origin { decision: true, clause, literal, instance: instance.to_vec() };
+        Ok(Change::Decided(Entry::Foreground(decided, origin)))
+    }
+
+    /// "**3 Conflict** (clause, instance)."
+    fn conflict(&self, clause: u8, instance: &[u8]) -> Result<Change, Refusal> {
+        self.demand_no_conflict()?;
+        let held = self.demand_clause(clause, instance)?;
+        // "All literals false"
+        self.demand_false(held, instance, None)?;
+        // "trail and clause atoms together possible"
+        let atoms = held.ground_atoms(instance);
+        demand(self.possible_with(self.trail.len(), &atoms), Refusal::of_step(13))?;
+        // "The clause becomes the conflict.", "the Conflict rule itself merges nothing"
+        Ok(Change::Conflict(Closure { clause: held.clone(), instance: instance.to_vec() }))
+    }
+
+    /// "**4 Resolve** (literal L')."
+    fn resolve(&self, literal: u8) -> Result<Change, Refusal> {
+        let resolvent = self.resolvent(literal)?;
+        // "clause limits counted after merging"
+        demand(resolvent.clause.within_limits(), Refusal::of_step(18))?;
+        Ok(Change::Conflict(resolvent))
+    }
+
+    /// The conflict that Resolve would give, its limits not yet counted.
+    pub fn resolvent(&self, literal: u8) -> Result<Closure, Refusal> {
+        let conflict = self.demand_conflict()?;
+        let own = demand_literal(&conflict.clause, literal)?;
+        // "The last entry is a propagated literal, the complement of L'."
+        let (last, origin) = match self.trail.last() {
+            Some(Entry::Foreground(last, origin)) if !origin.decision => (last, origin),
+            _ => return Err(Refusal::of_step(14)),
+        };
+        let complement = own.at(&conflict.instance).complement();
+        demand(*last == complement, Refusal::of_step(15))?;
+        let (reason, reason_own) = self.reason(origin);
+        Ok(resolvent(conflict, literal, &reason, reason_own))
+    }
+
+    /// "**5 Factorize** (two different literals with the same instance)."
+    fn factorize(&self, first: u8, second: u8) -> Result<Change, Refusal> {
+        let conflict = self.demand_conflict()?;
+        let one = demand_literal(&conflict.clause, first)?;
+        let other = demand_literal(&conflict.clause, second)?;
+        demand(first != second, Refusal::of_step(10))?;
+        let same = one.at(&conflict.instance) == other.at(&conflict.instance);
+        demand(same, Refusal::of_step(15))?;
+        // "Their variables are merged; the one with the larger number goes."
+        let mut groups = Groups::apart(conflict.clause.variables.into());
+        groups.merge_arguments(one, other);
+        let literals = without(&conflict.clause.literals, first.max(second));
+        let factor = merged(&groups, &conflict.clause.atoms, &literals, &conflict.instance);
+        Ok(Change::Conflict(factor))
+    }
+
+    /// "**6 Skip**."
+    fn skip(&self) -> Result<Change, Refusal> {
+        let conflict = self.demand_conflict()?;
+        let last = self.trail.last().ok_or(Refusal::of_step(14))?;
+        // "The last entry goes, if it is an atom or if its complement is not in the conflict."
+        if let Some(literal) = last.literal() {
+            let in_conflict = conflict.ground_literals().contains(&literal.complement());
+            demand(!in_conflict, Refusal::of_step(15))?;
+        }
+        Ok(Change::Skipped)
+    }
+
+    /// "**7 Backtrack** (literal L, the others D)."
+    fn backtrack(&self, literal: u8) -> Result<Change, Refusal> {
+        let conflict = self.demand_conflict()?;
+        let own = demand_literal(&conflict.clause, literal)?.at(&conflict.instance);
+        let others = without(&conflict.ground_literals(), literal);
+        // "L's instance is not in D"
+        demand(!others.contains(&own), Refusal::of_step(15))?;
+        // "i is the largest level in D, 0 if D is empty; L's level is above i"
+        let level_of = |literal| self.level_of(literal).expect("a conflict's literals are false");
+        let level = others.iter().map(level_of).max().unwrap_or(0);
+        demand(level_of(&own) > level, Refusal::of_step(16))?;
+        // "The trail is cut just before decision i + 1."
+        let kept = self.length_before_decision(level + 1);
+        // "Kept atoms and conflict atoms together are possible."
+        let atoms = conflict.ground_atoms();
+        demand(self.possible_with(kept, &atoms), Refusal::of_step(17))?;
+        // "The conflict is learned; L and its new atoms are appended as Propagate would append them
+        // from the learned clause; k is i, no conflict."
+        let clause = (self.clauses() + 1) as u8;
+        let instance = conflict.instance.clone();
+        let origin = Origin { decision: false, clause, literal, instance };
+        let entries = self.propagated(kept, own, origin, &atoms);
+        let room =
+            kept + entries.len() <= limits::TRAIL && self.learned.len() < limits::LEARNED_CLAUSES;
+        demand(room, Refusal::of_step(18))?;
+        Ok(Change::Learned { kept, entries, level })
+    }
+
+    /// "**8 Grow** (count)."
+    fn grow(&self, count: u8) -> Result<Change, Refusal> {
+        self.demand_no_conflict()?;
+        demand(count > 0, Refusal::of_step(10))?;
+        let room = self.constants + count as usize <= limits::CONSTANTS;
+        demand(room, Refusal::of_step(18))?;
+        Ok(Change::Grown(count.into()))
+    }
+
+    /// 9: "conflict standing for 1, 2, 3, 8"
+    fn demand_no_conflict(&self) -> Result<(), Refusal> {
+        demand(self.conflict.is_none(), Refusal::of_step(9))
+    }
+
+    /// 9: "none for 4 to 7"
+    fn demand_conflict(&self) -> Result<&Closure, Refusal> {
+        self.conflict.as_ref().ok_or(Refusal::of_step(9))
+    }
+
+    /// 10: "no such clause [..] or constant; wrong instance count"
+    fn demand_clause(&self, number: u8, instance: &[u8]) -> Result<&Clause, Refusal> {
+        let clause = self.clause(number).ok_or(Refusal::of_step(10))?;
+        let right_count = instance.len() == clause.variables as usize;
+        let is_constant = |&constant: &u8| (1..=self.constants).contains(&(constant as usize));
+        demand(right_count && instance.iter().all(is_constant), Refusal::of_step(10))?;
+        Ok(clause)
+    }
+
+    /// 12: "names the first literal from the left whose instance is not false, of those that must
+    /// be". Literals with the instance `own` need not be.
+    fn demand_false(
+        &self,
+        clause: &Clause,
+        instance: &[u8],
+        own: Option<&Literal>,
+    ) -> Result<(), Refusal> {
+        for (index, literal) in clause.literals.iter().enumerate() {
+            let literal = literal.at(instance);
+            let must_be_false = own != Some(&literal);
+            demand(!must_be_false || self.is_false(&literal), Refusal::new(12, index + 1))?;
+        }
+        Ok(())
+    }
+
+    /// Whether the atoms among the first `kept` trail entries are possible together with `atoms`.
+    fn possible_with(&self, kept: usize, atoms: &[Atom]) -> bool {
+        let trail_atoms = self.trail[..kept].iter().filter_map(Entry::atom);
+        let all: Vec<Atom> = trail_atoms.chain(atoms).copied().collect();
+        constraint::test(self.constants, &all).expect("a state's atoms meet the test's demands")
+    }
+
+    /// "Appended: L, then the atoms not yet on the trail, in clause order, each once." The trail
+    /// asked is its first `kept` entries.
+    fn propagated(&self, kept: usize, own: Literal, origin: Origin, atoms: &[Atom]) -> Vec<Entry> {
+        let mut entries = vec![Entry::Foreground(own, origin)];
+        for atom in atoms {
+            let entry = Entry::Background(*atom);
+            if !self.trail[..kept].contains(&entry) && !entries.contains(&entry) {
+                entries.push(entry);
+            }
+        }
+        entries
+    }
+}
+
+/// 10: "no such [..] literal"
+fn demand_literal(clause: &Clause, number: u8) -> Result<&Literal, Refusal> {
+    let index = (number as usize).checked_sub(1).ok_or(Refusal::of_step(10))?;
+    clause.literals.get(index).ok_or(Refusal::of_step(10))
+}
+
+/// The literals without the one of that number.
+fn without(literals: &[Literal], number: u8) -> Vec<Literal> {
+    let mut rest = literals.to_vec();
+    rest.remove(number as usize - 1);
+    rest
+}
+
+/// "The reason's variables are renamed apart, then merged argument by argument. New conflict: the
+/// old literals without L', then the reason's without its own; old atoms, then the reason's."
+fn resolvent(conflict: &Closure, literal: u8, reason: &Closure, reason_own: u8) -> Closure {
+    let old = &conflict.clause;
+    // "renamed reason variables follow the conflict's"
+    let rename = |variable: u8| if variable == 0 { 0 } else { old.variables + variable };
+    let reason_atoms = reason.clause.atoms.iter().map(|atom| atom.map(rename));
+    let reason_literals: Vec<Literal> =
+        reason.clause.literals.iter().map(|literal| literal.map(rename)).collect();
+
+    let mut groups = Groups::apart(conflict.instance.len() + reason.instance.len());
+    groups.merge_arguments(
+        &old.literals[literal as usize - 1],
+        &reason_literals[reason_own as usize - 1],
+    );
+    let atoms: Vec<Atom> = old.atoms.iter().copied().chain(reason_atoms).collect();
+    let mut literals = without(&old.literals, literal);
+    literals.extend(without(&reason_literals, reason_own));
+    let instance = [&conflict.instance[..], &reason.instance[..]].concat();
+    merged(&groups, &atoms, &literals, &instance)
+}

@@ -1,0 +1,97 @@
+//! Questions to a solver, in SMT-LIB 2: predicates are free, variables and constants whole numbers.
+
+use crate::clause::{Atom, Clause, Literal};
+use std::fmt::Write;
+
+/// Asks if whole numbers exist for the constants that keep their order and make every atom true.
+pub fn set_question(constants: usize, atoms: &[Atom]) -> String {
+    let mut text = "(set-logic QF_LIA)\n".to_string();
+    for constant in 1..=constants {
+        line(&mut text, format_args!("(declare-const b{constant} Int)"));
+    }
+    for second in 2..=constants {
+        line(&mut text, format_args!("(assert (< b{} b{second}))", second - 1));
+    }
+    for atom in atoms {
+        line(&mut text, format_args!("(assert {})", atom_term(atom, "b")));
+    }
+    text + "(check-sat)\n"
+}
+
+/// Declares the predicates and says that every clause holds for all whole numbers.
+pub fn theory(arities: &[u8], clauses: &[Clause]) -> String {
+    let mut text = String::new();
+    for (index, &arity) in arities.iter().enumerate() {
+        let sorts = vec!["Int"; arity.into()].join(" ");
+        line(&mut text, format_args!("(declare-fun P{} ({sorts}) Bool)", index + 1));
+    }
+    for clause in clauses {
+        line(&mut text, format_args!("(assert {})", clause_term(clause)));
+    }
+    text
+}
+
+/// Says that a clause does not hold for some whole numbers c1, c2, ..
+pub fn denial(clause: &Clause) -> String {
+    let mut text = String::new();
+    for variable in 1..=clause.variables {
+        line(&mut text, format_args!("(declare-const c{variable} Int)"));
+    }
+    line(&mut text, format_args!("(assert (not {}))", body(clause, "c")));
+    text
+}
+
+fn line(text: &mut String, words: std::fmt::Arguments) {
+    writeln!(text, "{words}").expect("a string takes all that is written");
+}
+
+/// "It says: for all whole numbers, if every atom holds then some literal does."
+fn clause_term(clause: &Clause) -> String {
+    if clause.variables == 0 {
+        return body(clause, "x");
+    }
+    let variables: Vec<String> =
+        (1..=clause.variables).map(|variable| format!("(x{variable} Int)")).collect();
+    format!("(forall ({}) {})", variables.join(" "), body(clause, "x"))
+}
+
+fn body(clause: &Clause, name: &str) -> String {
+    let atoms: Vec<String> = clause.atoms.iter().map(|atom| atom_term(atom, name)).collect();
+    let literals: Vec<String> =
+        clause.literals.iter().map(|literal| literal_term(literal, name)).collect();
+    format!("(=> (and true {}) (or false {}))", atoms.join(" "), literals.join(" "))
+}
+
+fn place(number: u8, name: &str) -> String {
+    match number {
+        0 => "0".to_string(),
+        _ => format!("{name}{number}"),
+    }
+}
+
+/// "An atom (p, q, c) means p − q ≤ c."
+fn atom_term(atom: &Atom, name: &str) -> String {
+    let c = match atom.c {
+        0.. => atom.c.to_string(),
+        _ => format!("(- {})", atom.c.unsigned_abs()),
+    };
+    format!("(<= (- {} {}) {c})", place(atom.p, name), place(atom.q, name))
+}
+
+fn literal_term(literal: &Literal, name: &str) -> String {
+    let arguments: Vec<String> = literal
+        .arguments
+        .iter()
+        .filter(|&&variable| variable > 0)
+        .map(|&variable| place(variable, name))
+        .collect();
+    let positive = match arguments.len() {
+        0 => format!("P{}", literal.predicate),
+        _ => format!("(P{} {})", literal.predicate, arguments.join(" ")),
+    };
+    if literal.positive {
+        positive
+    } else {
+        format!("(not {positive})")
+    }
+}

@@ -1,0 +1,29 @@
+-- `header::clause_at` meets its contract.
+use mathlib.Core.Path.{_∙_}
+use denote.Ref.{now}
+use Rattle.clauses.specs.Records.{clauseOf}
+use Rattle.header.specs.Records.{arities}
+use Rattle.header.proofs.Parts.{clause-held, clause-refused, judged-number}
+use borrow.Author.Needs.{needs}
+use Rattle.header.proofs.clause_at.Statement.{statement}
+use Rattle.header.proofs.clause_at.Tie as tie
+
+clause-fields-at-requires : tie.Need-clause-fields-at-requires
+clause-fields-at-requires c κs = c .before .pre
+
+admit-clause-requires : tie.Need-admit-clause-requires
+admit-clause-requires c κs = search needs
+
+returns : tie.Need-returns
+returns c = (clause-held (arities (c .before .before .before .before .before .before .args .ps)) (now (c .before .before .before .before .before .before .args .s)) (c .before .before .before .before .clause-fields-at .result .clause) (c .before .before .before .before .clause-fields-at .ensures .1) (c .before .before .before .before .before .before .args .at) (c .before .before .before .before .clause-fields-at .result .at) (c .before .before .before .before .clause-fields-at .ensures .0) (judged-number (c .before .before .before .before .before .before .args .ps) (c .before .before .before .before .clause-fields-at .result .clause) (c .before .admit-clause .result) (c .before .before .before .before .before .before .pre) (c .before .admit-clause .ensures) ∙ c .if1 .taken), c .before .before .before .before .clause-fields-at .ensures .1)
+
+refuse-requires : tie.Need-refuse-requires
+refuse-requires c κs = search needs
+
+returns-2 : tie.Need-returns-2
+returns-2 c = (rw (c .refuse .ensures) (clause-refused (arities (c .before .before .before .before .before .before .before .args .ps)) (now (c .before .before .before .before .before .before .before .args .s)) (c .before .before .before .before .before .clause-fields-at .result .clause) (c .before .before .before .before .before .clause-fields-at .ensures .1) (c .before .before .before .before .before .before .before .args .at) (c .before .before .before .before .before .clause-fields-at .result .at) (clauseOf (c .before .before .before .before .before .clause-fields-at .result .clause)) (c .before .before .admit-clause .result .number) (c .before .before .before .before .before .clause-fields-at .ensures .0) (judged-number (c .before .before .before .before .before .before .before .args .ps) (c .before .before .before .before .before .clause-fields-at .result .clause) (c .before .before .admit-clause .result) (c .before .before .before .before .before .before .before .pre) (c .before .before .admit-clause .ensures)) (c .before .if1 .left)), c .before .before .before .before .before .clause-fields-at .ensures .1)
+
+pub clause-at-spec : {M : Type 1} → statement M
+clause-at-spec =
+    tie.close
+    (tie.spec clause-fields-at-requires admit-clause-requires returns refuse-requires returns-2)

@@ -1,0 +1,2 @@
+-- What the records of a header say.
+pub mod Records

@@ -1,0 +1,48 @@
+-- The records of predicates and of a header.
+use mathlib.Core.Path.{_≡_}
+use mathlib.Core.List.{List, [], map}
+use Prim.Native.Nat.{ℕ, _≤_}
+use lib.ListN.{length, take}
+use Rattle.basis.specs.Limits.{mostInput, mostPredicates}
+use Rattle.lists.specs.Arrays.{exactly}
+use Rattle.calculus.specs.Clauses.{noClause}
+use Rattle.clauses.specs.declared.Clause.{Clause}
+use Rattle.clauses.specs.Records.{clauseOf, packed}
+use Rattle.runfile.specs.Readers.{Got, got, bad}
+use Rattle.runfile.specs.File.{Header}
+use Rattle.fields.specs.Views.{Filled}
+use Rattle.fields.specs.declared.Cursor.the-variants as C
+use Rattle.header.specs.declared.Predicates.{Predicates}
+use Rattle.header.specs.declared.HeaderRead.{HeaderRead}
+
+-- The arities of the predicates
+abbrev pub arities : Predicates → List ℕ
+arities ps = take (ps .count) (ps .arities)
+
+-- The slots past the count are 0.
+pub record Held (ps : Predicates) : Type 0 where
+  pub few : ps .count ≤ mostPredicates
+  pub filled : Filled mostPredicates 0 (ps .arities) (ps .count)
+
+-- A table of clauses whose first j are the records of what they say, the others blank
+abbrev pub Packed : List Clause → ℕ → Type 0
+Packed l j = l ≡ exactly mostInput (packed noClause) (map packed (map clauseOf (take j l)))
+
+-- The record of a header that is read; blank where it is refused
+abbrev pub packedHeader : Got Header → HeaderRead
+packedHeader (got h next) = record {
+  constants = h .constants;
+  predicates = record { count = length (h .arities); arities = exactly mostPredicates 0 (h .arities) };
+  input = length (h .input);
+  clauses = exactly mostInput (packed noClause) (map packed (h .input));
+  steps = h .count;
+  at = C.At next;
+}
+packedHeader (bad n p) = record {
+  constants = 0;
+  predicates = record { count = 0; arities = exactly mostPredicates 0 [] };
+  input = 0;
+  clauses = exactly mostInput (packed noClause) [];
+  steps = 0;
+  at = C.Refused n p;
+}

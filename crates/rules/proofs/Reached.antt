@@ -1,0 +1,213 @@
+-- What every state reached has, in the code's terms: everything fits its record, and the constraint test takes what it is asked.
+use mathlib.Core.Path.{_≡_, ap, refl, subst, sym}
+use mathlib.Core.Logic.{_⊎_, inl, inr}
+use mathlib.Core.List.{List, List·Memᴰ, List·Memᴰ·cases-cons, List·Memᴰ·head, List·Memᴰ·not-nil, List·Memᴰ·tail, Memᴰ·of-map, [], _∷_}
+use mathlib.Core.Option.{Option, none, some}
+use mathlib.Core.Bool.{Bool, _&&_, cond, false, true}
+use Prim.Native.Nat.{_+_, _<_, _≤_, suc, zero, ℕ}
+use native.Mathlib.Decide.{ℕ-discrete}
+use native.Mathlib.Omega.{arith}
+use lib.Dec.{T, leb, leb→le}
+use lib.ListN.{getD, length, length-append}
+use Rattle.basis.specs.Atoms.{Proper}
+use Rattle.basis.specs.Limits.{mostConstants, mostEntries, mostInput, mostLearned, mostVariables}
+use Rattle.basis.specs.Numbers.{whole}
+use Rattle.basis.specs.Refusals.{accepted}
+use Rattle.basis.specs.declared.Atom.{Atom}
+use Rattle.lists.proofs.Members.{getD-mem}
+use Rattle.lists.proofs.Tests.{and-l, and-r}
+use Rattle.rules.specs.Answers.{Reached}
+use Rattle.calculus.proofs.Answers.{AllOk, acceptance, refused-hands-back}
+use Rattle.calculus.proofs.Demands.{inv-run, inv-start, run-input}
+use Rattle.calculus.proofs.Instances.{Sized}
+use Rattle.calculus.proofs.Invariant.{Inv, Now, Stands}
+use Rattle.calculus.proofs.Levels.{clause-held, instance-sized}
+use Rattle.calculus.proofs.Trails.{Built, StepOk, Tail, empty, group, grown, here, literalBy, there}
+use Rattle.calculus.specs.Class.{InClass, Limited}
+use Rattle.calculus.specs.Clauses.{groundAtoms, renameAtom, under}
+use Rattle.calculus.specs.Rules.{Answer, Judged, asks, clauseExists, instanceFits, literalExists, next}
+use Rattle.calculus.specs.States.{Backtrack, Conflict, Decide, Factorize, Grow, Propagate, Resolve, Skip, State, Step, Unknown, clauseAt, clauses, conflictOf}
+use Rattle.calculus.specs.Trails.{Entry, Origin, Trail, appendAtoms, atomOnTrail, atomsOf, background, decided, decisions, foreground, isDecision, propagated}
+use Rattle.trail.specs.Entries.{AllShort}
+use Rattle.calculus.specs.Runs as runs
+use Rattle.calculus.specs.Clauses as calculus
+
+-- ---- the trail
+
+-- Of an entry: an atom is proper; a propagated literal's clause has it and its instance; instances are short.
+abbrev pub Fine : List calculus.Clause → ℕ → Entry → Type 0
+Fine cs n (foreground l (propagated c i τ)) = (length τ ≤ mostVariables) × T (clauseExists cs c) × T (literalExists (clauseAt cs c) i && instanceFits n (clauseAt cs c) τ)
+Fine cs n (foreground l (decided c i b τ)) = length τ ≤ mostVariables
+Fine cs n (background a) = Proper n a
+
+abbrev pub AllFine : List calculus.Clause → ℕ → Trail → Type 0
+AllFine cs n [] = Unit {0}
+AllFine cs n (e ∷ t) = Fine cs n e × AllFine cs n t
+
+-- "Instance" means variables replaced by constants: a constant for each variable leaves proper atoms proper.
+pub ground-proper : (n v : ℕ) (τ : List ℕ) → Sized n v τ → (az : List Atom) → ((a : Atom) → List·Memᴰ a az → Proper v a) → (a : Atom) → List·Memᴰ a (groundAtoms τ az) → Proper n a
+ground-proper n v τ z az h a k = let (b, m, e) = Memᴰ·of-map (renameAtom (under τ)) az k in subst (Proper n) e (proper b (h b m))
+  where
+    image : (x : ℕ) → x ≤ v → (under τ x ≤ n) × (1 ≤ x → 1 ≤ under τ x)
+    image zero h = (omega arith, λ k. absurd (omega arith))
+    image (suc x) h =
+        let t = z .range (getD τ x 0) (getD-mem τ x 0 (omega (arith, z .size))) in
+        (leb→le (getD τ x 0) n (and-r (leb 1 (getD τ x 0)) (leb (getD τ x 0) n) t), λ k. leb→le 1 (getD τ x 0) (and-l (leb 1 (getD τ x 0)) (leb (getD τ x 0) n) t))
+
+    proper : (b : Atom) → Proper v b → Proper n (renameAtom (under τ) b)
+    proper b h = record { p-place = image (b .p) (h .p-place) .0; q-place = image (b .q) (h .q-place) .0; some-place = positive; c-range = h .c-range }
+      where
+        positive : 0 < under τ (b .p) + under τ (b .q)
+        positive = elim (ℕ-discrete (b .p) 0) [
+          | yes e ↦ omega (arith, image (b .q) (h .q-place) .1 (omega (arith, h .some-place)))
+          | no e ↦ omega (arith, image (b .p) (h .p-place) .1 (omega arith))
+        ]
+
+fine-append : (cs : List calculus.Clause) (n : ℕ) (az : List Atom) (t : Trail) → ((a : Atom) → List·Memᴰ a az → Proper n a) → AllFine cs n t → AllFine cs n (appendAtoms az t)
+fine-append cs n [] t h f = f
+fine-append cs n (a ∷ az) t h f = fine-append cs n az (cond (atomOnTrail a t) t (background a ∷ t)) (λ b k. h b (List·Memᴰ·tail k)) (go (atomOnTrail a t))
+  where
+    go : (b : Bool) → AllFine cs n (cond b t (background a ∷ t))
+    go true = f
+    go false = (h a (List·Memᴰ·head refl), f)
+
+pub fine-tail : (cs : List calculus.Clause) (n : ℕ) {t u : Trail} → Tail t u → AllFine cs n u → AllFine cs n t
+fine-tail cs n (here e) f = subst (AllFine cs n) (sym e) f
+fine-tail cs n (there h) f = fine-tail cs n h (f .1)
+
+shorter-tail : {t u : Trail} → Tail t u → length t ≤ length u
+shorter-tail {t} (here e) = omega (arith, ap length e)
+shorter-tail (there h) = omega (arith, shorter-tail h)
+
+module _ (arities : List ℕ) (cs : List calculus.Clause) (n : ℕ) (class : (C : calculus.Clause) → List·Memᴰ C cs → InClass arities C) where
+  pub clause-proper : (c : ℕ) (τ : List ℕ) → T (clauseExists cs c) → T (instanceFits n (clauseAt cs c) τ) → (a : Atom) → List·Memᴰ a (groundAtoms τ (clauseAt cs c .atoms)) → Proper n a
+  clause-proper c τ h k = ground-proper n (clauseAt cs c .variables) τ (instance-sized n (clauseAt cs c) τ k) (clauseAt cs c .atoms) (class (clauseAt cs c) (clause-held cs c h) .atoms-proper)
+
+  built-fine : {t : Trail} → Built whole cs n t → AllFine cs n t
+  built-fine (empty e) = subst (AllFine cs n) (sym e) tt
+  built-fine (group {t = u} m b k e) = subst (AllFine cs n) (sym e) (go m k (built-fine b))
+    where
+      go : (m : Origin) → StepOk whole cs n u m → AllFine cs n u → AllFine cs n (grown cs m u)
+      go (propagated c l τ) k f =
+          fine-append cs n (groundAtoms τ (clauseAt cs c .atoms)) (foreground (literalBy cs (propagated c l τ)) (propagated c l τ) ∷ u)
+          (clause-proper c τ (k .0) (and-r (literalExists (clauseAt cs c) l) (instanceFits n (clauseAt cs c) τ) (k .1 .named)))
+          ((leb→le (length τ) mostVariables (k .1 .short), k .0, k .1 .named), f)
+      go (decided c l b τ) k f = (leb→le (length τ) mostVariables (k .1 .short), f)
+
+built-few : {cs : List calculus.Clause} {n : ℕ} {t : Trail} → Built whole cs n t → length t ≤ mostEntries
+built-few (empty e) = omega (arith, ap length e)
+built-few {cs} {n} (group {t = u} m b k e) = omega (arith, ap length e, go m k)
+  where
+    go : (m : Origin) → StepOk whole cs n u m → length (grown cs m u) ≤ mostEntries
+    go (propagated c l τ) k = leb→le (length (grown cs (propagated c l τ) u)) mostEntries (k .1 .room)
+    go (decided c l b τ) k = leb→le (suc (length u)) mostEntries (k .1 .room)
+
+pub decisions-few : (t : Trail) → decisions t ≤ length t
+decisions-few [] = omega arith
+decisions-few (e ∷ t) = go (isDecision e) (decisions-few t)
+  where
+    go : (b : Bool) → decisions t ≤ length t → cond b (suc (decisions t)) (decisions t) ≤ suc (length t)
+    go true h = omega arith
+    go false h = omega arith
+
+pub fine-atoms : (cs : List calculus.Clause) (n : ℕ) (t : Trail) → AllFine cs n t → (a : Atom) → List·Memᴰ a (atomsOf t) → Proper n a
+fine-atoms cs n [] f a k = absurd (List·Memᴰ·not-nil k)
+fine-atoms cs n (foreground l o ∷ t) f a k = fine-atoms cs n t (f .1) a k
+fine-atoms cs n (background b ∷ t) f a k = go (λ k. fine-atoms cs n t (f .1) a k) (List·Memᴰ·cases-cons k)
+  where
+    go : (List·Memᴰ a (atomsOf t) → Proper n a) → (a ≡ b) ⊎ List·Memᴰ a (atomsOf t) → Proper n a
+    go ih (inl e) = subst (Proper n) (sym e) (f .0)
+    go ih (inr k) = ih k
+
+pub fine-short : (cs : List calculus.Clause) (n : ℕ) (t : Trail) → AllFine cs n t → AllShort t
+fine-short cs n [] f = tt
+fine-short cs n (foreground l (propagated c i τ) ∷ t) f = (f .0 .0, fine-short cs n t (f .1))
+fine-short cs n (foreground l (decided c i b τ) ∷ t) f = (f .0, fine-short cs n t (f .1))
+fine-short cs n (background a ∷ t) f = (tt, fine-short cs n t (f .1))
+
+-- ---- counts
+
+record Counts (s : State) : Type 0 where
+  few-constants : s .constants ≤ mostConstants
+  few-learned : length (s .learned) ≤ mostLearned
+
+counts-next : (b : Bool) (s : State) (x : Step) → AllOk (asks b s x) → Counts s → Counts (next s x)
+counts-next b s (Propagate c l τ) k h = record { few-constants = h .few-constants; few-learned = h .few-learned }
+counts-next b s (Decide c l g τ) k h = record { few-constants = h .few-constants; few-learned = h .few-learned }
+counts-next b s (Conflict c τ) k h = record { few-constants = h .few-constants; few-learned = h .few-learned }
+counts-next b s (Resolve l) k h = record { few-constants = h .few-constants; few-learned = h .few-learned }
+counts-next b s (Factorize i j) k h = record { few-constants = h .few-constants; few-learned = h .few-learned }
+counts-next b s Skip k h = record { few-constants = h .few-constants; few-learned = h .few-learned }
+counts-next b s (Backtrack l) (k1, (k2, (k3, (k4, (k5, (k, u)))))) h = record {
+  few-constants = h .few-constants;
+  few-learned =
+      let C = conflictOf (s .conflict) .clause in
+      let r = leb→le (suc (length (s .learned))) mostLearned (and-r (leb (length (next s (Backtrack l) .trail)) mostEntries) (leb (suc (length (s .learned))) mostLearned) k) in
+      omega (arith, length-append (s .learned) (C ∷ []));
+}
+counts-next b s (Grow n) (k1, (k2, (k, u))) h = record { few-constants = leb→le (s .constants + n) mostConstants k; few-learned = h .few-learned }
+counts-next b s (Unknown r) k h = h
+
+counts-judged : (s : State) (x : Step) (a : Answer) → Judged whole s x a → Counts s → Counts (a .state)
+counts-judged s x a j h = elim (ℕ-discrete (a .number) accepted) [
+  | yes e ↦ let A = acceptance whole s x a j e in subst Counts (sym (A .is)) (counts-next (A .possible) s x (A .checks) h)
+  | no e ↦ subst Counts (sym (refused-hands-back whole s x a j e)) h
+]
+
+counts-run : {s s′ : State} {xs : List Step} → runs.Run whole s xs s′ → Counts s → Counts s′
+counts-run (runs.over e) h = subst Counts e h
+counts-run {s = s} (runs.then {x = x} a j r) h = counts-run r (counts-judged s x a j h)
+
+-- ---- the state
+
+-- A conflict: of the class, within the limits, with a constant for each of its variables
+pub record FineConflict (arities : List ℕ) (n : ℕ) (N : calculus.Instanced) : Type 0 where
+  pub class : InClass arities (N .clause)
+  pub limited : Limited (N .clause)
+  pub sized : Sized n (N .clause .variables) (N .instance)
+
+pub record FineState (s : State) : Type 0 where
+  pub few-constants : s .constants ≤ mostConstants
+  pub few-input : length (s .input) ≤ mostInput
+  pub few-learned : length (s .learned) ≤ mostLearned
+  pub few-entries : length (s .trail) ≤ mostEntries
+  pub level : s .level ≡ decisions (s .trail)
+  pub class : (C : calculus.Clause) → List·Memᴰ C (clauses s) → InClass (s .arities) C
+  pub limited : (C : calculus.Clause) → List·Memᴰ C (clauses s) → Limited C
+  pub entries : AllFine (clauses s) (s .constants) (s .trail)
+  pub conflict : (N : calculus.Instanced) → s .conflict ≡ some N → FineConflict (s .arities) (s .constants) N
+
+pub reached-fine : (s : State) → Reached s → FineState s
+reached-fine s h = record {
+  few-constants = counts .few-constants;
+  few-input = omega (arith, ap (λ (cs : List calculus.Clause). length cs) (run-input (h .run) .0), h .admitted .few-clauses);
+  few-learned = counts .few-learned;
+  few-entries = trail .0;
+  level = v .level;
+  class = λ C k. v .held C k .class;
+  limited = λ C k. v .held C k .limited;
+  entries = trail .1;
+  conflict = λ N e. stands N (subst (Now whole s) e (v .now));
+}
+  where
+    v : Inv whole s
+    v = inv-run (inv-start whole (h .first) (h .admitted)) (h .run)
+
+    counts : Counts s
+    counts = counts-run (h .run) (record { few-constants = h .admitted .few-constants; few-learned = omega (arith, ap (λ (q : State). length (q .learned)) (h .admitted .new)) })
+
+    fine : {t : Trail} → Built whole (clauses s) (s .constants) t → AllFine (clauses s) (s .constants) t
+    fine b = built-fine (s .arities) (clauses s) (s .constants) (λ C k. v .held C k .class) b
+
+    Trailed : Type 0
+    Trailed = (length (s .trail) ≤ mostEntries) × AllFine (clauses s) (s .constants) (s .trail)
+
+    now : (c : Option calculus.Instanced) → Now whole s c → Trailed
+    now none b = (built-few (b .lower), fine (b .lower))
+    now (some N) S = (omega (arith, shorter-tail (S .tail), built-few (S .built)), fine-tail (clauses s) (s .constants) (S .tail) (fine (S .built)))
+
+    trail : Trailed
+    trail = now (s .conflict) (v .now)
+
+    stands : (N : calculus.Instanced) → Stands whole (s .arities) (clauses s) (s .input) (s .constants) (s .trail) N → FineConflict (s .arities) (s .constants) N
+    stands N S = record { class = S .held .class; limited = S .held .limited; sized = S .sized }

@@ -1,0 +1,150 @@
+-- A run record read as the state that it is the record of.
+use mathlib.Core.Path.{_∙_, _≡_, ap, refl, subst, sym}
+use mathlib.Core.List.{List, [], _∷_}
+use mathlib.Core.Option.{Option, none, some}
+use mathlib.Core.Bool.{_&&_, false, true}
+use Prim.Native.Nat.{_+_, _-_, _<_, _≤_, suc, zero, ℕ}
+use native.Mathlib.Omega.{arith}
+use lib.Dec.{T, leb, le→leb}
+use lib.ListN.{getD, length, length-append}
+use Rattle.basis.specs.Limits.{mostAtoms, mostConstants, mostEntries, mostInput, mostLearned, mostLiterals, mostVariables}
+use Rattle.lists.proofs.Tests.{T→eq, and-i}
+use Rattle.rules.specs.Answers.{Kept, RunOf}
+use Rattle.rules.specs.Records.{packedRun}
+use Rattle.rules.specs.declared.Run.{Run}
+use Rattle.calculus.proofs.Levels.{clause-held}
+use Rattle.calculus.specs.Class.{Limited, withinLimits}
+use Rattle.calculus.specs.Rules.{clauseExists}
+use Rattle.calculus.specs.States.{State, clauseAt, clauses, conflictOf, stands, updated}
+use Rattle.calculus.specs.Trails.{Entry, Trail, decisions, isDecision}
+use Rattle.clauses.proofs.Records.{packed-instanced-says, packed-says}
+use Rattle.clauses.specs.Records.{clauseOf, instancedOf, packed, packedInstanced}
+use Rattle.clauses.specs.declared.Clause.{Clause}
+use Rattle.clauses.specs.declared.Instanced.{Instanced}
+use Rattle.rules.proofs.Reached.{FineConflict, FineState, decisions-few, fine-short, reached-fine}
+use Rattle.trail.proofs.Stored.{packed-length, packed-stored, stored-held, stored-length}
+use Rattle.trail.specs.Entries.{Held, Stored, entryOf, pastEnd, trailOf}
+use Rattle.trail.specs.declared.Entry as entries
+use Rattle.calculus.specs.Clauses as calculus
+
+-- ---- what the records of clauses say
+
+some-conflict : (c : Option calculus.Instanced) → stands c ≡ true → c ≡ some (conflictOf c)
+some-conflict none e = absurd (let z : _≡_ {A = ℕ} 0 1 = cc in omega arith)
+some-conflict (some N) e = refl
+
+pub no-conflict : (c : Option calculus.Instanced) → stands c ≡ false → c ≡ none
+no-conflict none e = refl
+no-conflict (some N) e = absurd (let z : _≡_ {A = ℕ} 0 1 = cc in omega arith)
+
+pub within : (C : calculus.Clause) → Limited C → withinLimits C ≡ true
+within C h = T→eq (withinLimits C) (and-i (leb (C .variables) mostVariables) (leb (length (C .atoms)) mostAtoms && leb (length (C .literals)) mostLiterals) (le→leb (C .variables) mostVariables (h .few-variables))
+    (and-i (leb (length (C .atoms)) mostAtoms) (leb (length (C .literals)) mostLiterals) (le→leb (length (C .atoms)) mostAtoms (h .few-atoms)) (le→leb (length (C .literals)) mostLiterals (h .few-literals))))
+
+module _ {r : Run} {s : State} (R : RunOf r s) where
+  pub fine : FineState s
+  fine = reached-fine s (R .reached)
+
+  pub stands-is : r .stands ≡ stands (s .conflict)
+  stands-is = ap (λ (q : Run). q .stands) (R .is)
+
+  pub constants-is : r .constants ≡ s .constants
+  constants-is = ap (λ (q : Run). q .constants) (R .is)
+
+  pub level-is : r .level ≡ s .level
+  level-is = ap (λ (q : Run). q .level) (R .is)
+
+  pub input-is : r .input ≡ length (s .input)
+  input-is = ap (λ (q : Run). q .input) (R .is)
+
+  pub learned-is : r .learned ≡ length (s .learned)
+  learned-is = ap (λ (q : Run). q .learned) (R .is)
+
+  pub clauses-is : r .input + r .learned ≡ length (clauses s)
+  clauses-is = omega (arith, input-is, learned-is, length-append (s .input) (s .learned))
+
+  pub stored : Stored (r .trail) (r .length) (s .trail)
+  stored = subst (λ (q : Run). Stored (q .trail) (q .length) (s .trail)) (sym (R .is)) (packed-stored (s .trail) (fine .few-entries) (fine-short (clauses s) (s .constants) (s .trail) (fine .entries)))
+
+  pub conflict-is : r .conflict ≡ packedInstanced (conflictOf (s .conflict))
+  conflict-is = ap (λ (q : Run). q .conflict) (R .is)
+
+  -- ---- a conflict that stands
+
+  module _ (e : r .stands ≡ true) where
+    pub standing : stands (s .conflict) ≡ true
+    standing = sym stands-is ∙ e
+
+    pub fine-conflict : FineConflict (s .arities) (s .constants) (conflictOf (s .conflict))
+    fine-conflict = fine .conflict (conflictOf (s .conflict)) (some-conflict (s .conflict) standing)
+
+    pub conflict-says : instancedOf (r .conflict) ≡ conflictOf (s .conflict)
+    conflict-says = ap instancedOf conflict-is ∙ packed-instanced-says (conflictOf (s .conflict)) (fine-conflict .limited) (fine-conflict .sized .size)
+
+  -- ---- a clause that is named
+
+  pub clause-says : (c : ℕ) (k : Clause) → T (clauseExists (clauses s) c) → k ≡ packed (clauseAt (clauses s) c) → clauseOf k ≡ clauseAt (clauses s) c
+  clause-says c k h e = ap clauseOf e ∙ packed-says (clauseAt (clauses s) c) (fine .limited (clauseAt (clauses s) c) (clause-held (clauses s) c h))
+
+-- A run record that is that of a state, part by part
+pub packed-as : {q : Run} (s : State) → q .constants ≡ s .constants → q .input ≡ length (s .input) → q .learned ≡ length (s .learned) → q .level ≡ s .level → q .stands ≡ stands (s .conflict)
+    → Stored (q .trail) (q .length) (s .trail) → q .conflict ≡ packedInstanced (conflictOf (s .conflict)) → q ≡ packedRun s
+packed-as {q} s constants input learned level stand trail conflict =
+    λ i. record { constants = constants i; input = input i; learned = learned i; level = level i; length = sym (stored-length trail) i; stands = stand i; trail = trail .packed i; conflict = conflict i }
+
+-- ---- limits
+
+-- What no sum and no index of the code goes beyond
+pub record Small (r : Run) : Type 0 where
+  pub few-constants : r .constants ≤ mostConstants
+  pub few-input : r .input ≤ mostInput
+  pub few-learned : r .learned ≤ mostLearned
+  pub few-entries : r .length ≤ mostEntries
+  pub few-decisions : r .level ≤ r .length
+  pub trail-held : Held (r .trail) (r .length)
+  pub slots : length (r .trail) ≡ mostEntries
+
+pub kept-small : {r : Run} → Kept r → Small r
+kept-small {r} (s, R) = record {
+  few-constants = omega (arith, constants-is R, fine R .few-constants);
+  few-input = omega (arith, input-is R, fine R .few-input);
+  few-learned = omega (arith, learned-is R, fine R .few-learned);
+  few-entries = stored R .few;
+  few-decisions = omega (arith, level-is R, fine R .level, decisions-few (s .trail), stored-length (stored R));
+  trail-held = stored-held (stored R);
+  slots = ap length (stored R .packed) ∙ packed-length (s .trail);
+}
+
+-- A decision that can be skipped has been counted.
+pub decision-counted : {r : Run} {s : State} → RunOf r s → (e : Entry) (t : Trail) → s .trail ≡ e ∷ t → isDecision e ≡ true → 1 ≤ r .level
+decision-counted {r} {s} R e t h d = omega (arith, level-is R, fine R .level, ap decisions h, counted)
+  where
+    counted : 1 ≤ decisions (e ∷ t)
+    counted = rw d (omega arith)
+
+-- ---- the last entry
+
+-- What the array has last
+abbrev pub lastOf : Run → entries.Entry
+lastOf r = getD (r .trail) (r .length - 1) pastEnd
+
+split-last : (es : List entries.Entry) (n : ℕ) → 1 ≤ n → trailOf es n ≡ entryOf (getD es (n - 1) pastEnd) ∷ trailOf es (n - 1)
+split-last es zero h = absurd (omega arith)
+split-last es (suc n) h = let e : n ≡ suc n - 1 = omega arith in ap (λ (k : ℕ). entryOf (getD es k pastEnd) ∷ trailOf es k) e
+
+module _ {r : Run} {s : State} (R : RunOf r s) where
+  pub trail-last : 1 ≤ r .length → s .trail ≡ entryOf (lastOf r) ∷ trailOf (r .trail) (r .length - 1)
+  trail-last h = sym (stored R .says) ∙ split-last (r .trail) (r .length) h
+
+  pub trail-none : r .length < 1 → s .trail ≡ []
+  trail-none h = is-empty (s .trail) (omega (arith, stored-length (stored R)))
+    where
+      is-empty : (t : Trail) → length t ≤ 0 → t ≡ []
+      is-empty [] k = refl
+      is-empty (e ∷ t) k = absurd (omega arith)
+
+  -- A state with another conflict
+  pub with-conflict : (n : Instanced) (N : calculus.Instanced) → r .stands ≡ true → n ≡ packedInstanced N
+      → _≡_ {A = Run} (record { constants = r .constants; input = r .input; learned = r .learned; level = r .level; length = r .length; stands = r .stands; trail = r .trail; conflict = n })
+      (packedRun (updated s (s .trail) (s .level) (some N)))
+  with-conflict n N e h = packed-as (updated s (s .trail) (s .level) (some N)) (constants-is R) (input-is R) (learned-is R) (level-is R) e (stored R) h

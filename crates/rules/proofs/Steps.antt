@@ -1,0 +1,58 @@
+-- One step: the record of a step, by its rule number, and what its rule answers.
+use mathlib.Core.Path.{_≡_, refl, subst, sym}
+use Prim.Native.Nat.{ℕ}
+use borrow.Author.Tests.{ne-eqb}
+use Rattle.rules.specs.declared.Step as steps
+use Rattle.rules.proofs.Told.{refused}
+use Rattle.clauses.specs.declared.Clause.{Clause}
+use Rattle.basis.specs.Refusals.{unknownRule}
+use Rattle.rules.specs.Answers.{Answered, Answers, Handed}
+use Rattle.rules.specs.Records.{instanceOf, stepOf}
+use Rattle.rules.specs.declared.Run.{Run}
+use Rattle.rules.specs.declared.Stepped.{Stepped}
+use Rattle.calculus.specs.States.{Backtrack, Conflict, Decide, Factorize, Grow, Propagate, Resolve, Skip, Step, Unknown}
+
+-- ---- by the rule number
+
+pub propagate-step : (x : steps.Step) → x .rule ≡ 1 → stepOf x ≡ Propagate (x .clause) (x .literal) (instanceOf x)
+propagate-step x e = rw e
+
+pub decide-step : (x : steps.Step) → x .rule ≡ 2 → stepOf x ≡ Decide (x .clause) (x .literal) (x .sign) (instanceOf x)
+decide-step x e = rw e
+
+pub conflict-step : (x : steps.Step) → x .rule ≡ 3 → stepOf x ≡ Conflict (x .clause) (instanceOf x)
+conflict-step x e = rw e
+
+pub resolve-step : (x : steps.Step) → x .rule ≡ 4 → stepOf x ≡ Resolve (x .literal)
+resolve-step x e = rw e
+
+pub factorize-step : (x : steps.Step) → x .rule ≡ 5 → stepOf x ≡ Factorize (x .literal) (x .other)
+factorize-step x e = rw e
+
+pub skip-step : (x : steps.Step) → x .rule ≡ 6 → stepOf x ≡ Skip
+skip-step x e = rw e
+
+pub backtrack-step : (x : steps.Step) → x .rule ≡ 7 → stepOf x ≡ Backtrack (x .literal)
+backtrack-step x e = rw e
+
+pub grow-step : (x : steps.Step) → x .rule ≡ 8 → stepOf x ≡ Grow (x .amount)
+grow-step x e = rw e
+
+pub unknown-step : (x : steps.Step) → ¬ (x .rule ≡ 1) → ¬ (x .rule ≡ 2) → ¬ (x .rule ≡ 3) → ¬ (x .rule ≡ 4) → ¬ (x .rule ≡ 5) → ¬ (x .rule ≡ 6) → ¬ (x .rule ≡ 7) → ¬ (x .rule ≡ 8) → stepOf x ≡ Unknown (x .rule)
+unknown-step x h1 h2 h3 h4 h5 h6 h7 h8 = simp (ne-eqb (x .rule) 1 h1, ne-eqb (x .rule) 2 h2, ne-eqb (x .rule) 3 h3, ne-eqb (x .rule) 4 h4, ne-eqb (x .rule) 5 h5, ne-eqb (x .rule) 6 h6, ne-eqb (x .rule) 7 h7, ne-eqb (x .rule) 8 h8)
+
+-- ---- what is handed on and what is answered
+
+module _ (r : Run) (k : Clause) where
+  pub handed-as : {x y : Step} → x ≡ y → Handed r k x → Handed r k y
+  handed-as e h = subst (Handed r k) e h
+
+  pub answered-as : {x y : Step} (a : Stepped) → x ≡ y → Answered r k y a → Answered r k x a
+  answered-as a e h = subst (λ (z : Step). Answered r k z a) (sym e) h
+
+  pub answers-as : {x y : Step} (a : Stepped) → x ≡ y → Answers r y a → Answered r k x a
+  answers-as a e h = answered-as a e (λ s R looks. h s R)
+
+  -- "Unknown rule" is refused by 7.
+  pub unknown-answered : (n : ℕ) → Answered r k (Unknown n) (record { run = r; number = unknownRule; place = 0 })
+  unknown-answered n s R looks = refused R (Unknown n) unknownRule tt tt (λ b. refl)

@@ -1,0 +1,56 @@
+-- Run records, answers and step records as the calculus's states, answers and steps.
+use mathlib.Core.List.{List}
+use mathlib.Core.Bool.{Bool, true, false, cond}
+use Prim.Native.Nat.{ℕ}
+use lib.Dec.{eqb}
+use lib.ListN.{length}
+use Rattle.lists.specs.Arrays.{exactly}
+use Rattle.calculus.specs.States as calculus
+use Rattle.calculus.specs.States.{State, conflictOf}
+use Rattle.calculus.specs.Rules.{Answer}
+use Rattle.clauses.specs.Records.{packedInstanced}
+use Rattle.trail.specs.Entries.{packedTrail}
+use Rattle.trail.specs.declared.Kind.{Kind}
+use Rattle.trail.specs.declared.Kind.the-variants.{Background, Propagated, Decided}
+use Rattle.rules.specs.declared.Run.{Run}
+use Rattle.rules.specs.declared.Step.{Step}
+use Rattle.rules.specs.declared.Stepped.{Stepped}
+
+-- The run record of a state: its predicates and clauses stand beside it. Slots past a count are blank, and so is the conflict where none stands.
+abbrev pub packedRun : State → Run
+packedRun s = record {
+  constants = s .constants;
+  input = length (s .input);
+  learned = length (s .learned);
+  level = s .level;
+  length = length (s .trail);
+  stands = calculus.stands (s .conflict);
+  trail = packedTrail (s .trail);
+  conflict = packedInstanced (conflictOf (s .conflict));
+}
+
+abbrev pub packedAnswer : Answer → Stepped
+packedAnswer a = record { run = packedRun (a .state); number = a .number; place = a .place }
+
+-- An entry of this kind is a propagated literal.
+abbrev pub isPropagated : Kind → Bool
+isPropagated Background = false
+isPropagated Propagated = true
+isPropagated Decided = false
+
+-- The instance of a step, as many constants as it counts
+abbrev pub instanceOf : Step → List ℕ
+instanceOf x = exactly (x .count) 0 (x .instance)
+
+-- "Rule number and its arguments in the order above"; a number that is none of the eight is an unknown rule.
+abbrev pub stepOf : Step → calculus.Step
+stepOf x =
+    cond (eqb (x .rule) 1) (calculus.Propagate (x .clause) (x .literal) (instanceOf x))
+    (cond (eqb (x .rule) 2) (calculus.Decide (x .clause) (x .literal) (x .sign) (instanceOf x))
+    (cond (eqb (x .rule) 3) (calculus.Conflict (x .clause) (instanceOf x))
+    (cond (eqb (x .rule) 4) (calculus.Resolve (x .literal))
+    (cond (eqb (x .rule) 5) (calculus.Factorize (x .literal) (x .other))
+    (cond (eqb (x .rule) 6) calculus.Skip
+    (cond (eqb (x .rule) 7) (calculus.Backtrack (x .literal))
+    (cond (eqb (x .rule) 8) (calculus.Grow (x .amount))
+    (calculus.Unknown (x .rule)))))))))

@@ -1,0 +1,833 @@
+// The run state and its rules, each a method by value that returns the next run state with the answer. A rule is handed the one clause that
+// it looks at; it changes no other.
+ghost use mathlib.Core.Path.{_≡_};
+ghost use mathlib.Core.Logic.{_↔_};
+ghost use mathlib.Core.List.{[], _∷_, _++_};
+ghost use mathlib.Core.Bool.{Bool, _&&_, not, cond};
+ghost use Prim.Native.Nat.{suc, _+_, _-_, _≤_};
+ghost use lib.Dec.{T, eqb};
+ghost use lib.ListN.{length, getD, take};
+ghost use Rattle.basis.specs.Limits.{mostVariables, mostInput, mostLearned};
+ghost use Rattle.basis.specs.Numbers.{whole};
+ghost use Rattle.basis.specs.Atoms.{Possible};
+ghost use Rattle.lists.specs.Arrays.{exactly};
+ghost use Rattle.lists.specs.Lists.{anyOf};
+ghost use Rattle.calculus.specs.Checks.{between};
+ghost use Rattle.calculus.specs.Clauses.{noLiteral, sameLiteral, groundAtoms};
+ghost use Rattle.calculus.specs.Clauses as calculus;
+ghost use Rattle.calculus.specs.Rules.{literalExists, instanceFits, literalInstance, decidedLiteral, isOne, complementInConflict, propagatedTrail, otherInstances, backLevel, withoutLast};
+ghost use Rattle.calculus.specs.States.{Propagate, Decide, Conflict, Resolve, Factorize, Skip, Backtrack, Grow};
+ghost use Rattle.calculus.specs.Trails.{onTrail, atomOnTrail, isLiteral, isAtom, isDecision, levelOf, largestLevel, atomsOf, foreground, background, propagated, decided};
+ghost use Rattle.calculus.specs.Trails as trails;
+ghost use Rattle.clauses.specs.Records.{clauseOf, instancedOf};
+ghost use Rattle.trail.specs.Entries.{entryOf, trailOf, Stored, Held};
+ghost use Rattle.trail.specs.Answers.{passes, firstNumber, packedInstances, Grew, Testable};
+ghost use Rattle.merging.specs.Results.{resolved, reasonOf};
+ghost use Rattle.rules.specs.Records.{stepOf, isPropagated};
+ghost use Rattle.rules.specs.Answers.{Kept, Handed, Answers, Answered};
+use basis::ABOVE_LIMIT;
+use basis::ALREADY_DEFINED;
+use basis::KEPT_NOT_POSSIBLE;
+use basis::Literal;
+use basis::MOST_CONSTANTS;
+use basis::MOST_LEARNED;
+use basis::MOST_VARIABLES;
+use basis::NO_ENTRY;
+use basis::NO_ROOM;
+use basis::NO_SUCH;
+use basis::NOT_ABOVE;
+use basis::NOT_FALSE;
+use basis::NOT_POSSIBLE;
+use basis::OUT_OF_RANGE;
+use basis::UNKNOWN_RULE;
+use basis::WRONG_LITERAL;
+use basis::WRONG_MOMENT;
+use clauses::Clause;
+use clauses::Instanced;
+use clauses::complement;
+use clauses::ground;
+use clauses::no_instanced;
+use clauses::no_literal;
+use clauses::same_literal;
+use merging::Merged;
+use merging::reason_of;
+use trail::Entry;
+use trail::Instances;
+use trail::Kind;
+use trail::append_propagated;
+use trail::back_level;
+use trail::cut;
+use trail::drop_last;
+use trail::empty_trail;
+use trail::first_constants;
+use trail::first_not_false;
+use trail::is_decision;
+use trail::level_of;
+use trail::literal_instance;
+use trail::literals_of;
+use trail::other_instances;
+use trail::possible;
+use trail::push_decided;
+use trail::undefined;
+
+// "The tool takes a state and one proposed step": what a rule changes of the state. The clause table stands beside it.
+pub struct Run {
+    pub constants: u8,
+    pub input: u8,
+    pub learned: u8,
+    pub level: u8,
+    pub length: u8,
+    pub stands: bool,
+    pub trail: [Entry; 160],
+    pub conflict: Instanced,
+}
+
+// "hands a state back, with a number (0 for accepted) and a place"
+pub struct Stepped {
+    pub run: Run,
+    pub number: u8,
+    pub place: u8,
+}
+
+// One proposed step: a rule number and its arguments; those that the rule has no use for are not looked at.
+pub struct Step {
+    pub rule: u8,
+    pub clause: u8,
+    pub literal: u8,
+    pub other: u8,
+    pub sign: u8,
+    pub amount: u8,
+    pub count: u8,
+    pub instance: [u8; 12],
+}
+
+// ---- which numbers name something
+
+fn clause_exists(input: u8, learned: u8, c: u8) -> bool
+    requires { ⌜ (input ≤ mostInput) × (learned ≤ mostLearned) ⌝ }
+    ensures { λ r. ⌜ r ≡ between 1 (input + learned) c ⌝ }
+{
+    if c < 1 {
+        return false;
+    }
+    c <= input + learned
+}
+
+fn literal_exists(c: Clause, l: u8) -> bool
+    ensures { λ r. ⌜ r ≡ literalExists (clauseOf c) l ⌝ }
+{
+    let n = literals_of(c);
+    if l < 1 {
+        return false;
+    }
+    l as usize <= n
+}
+
+// A constant for each variable, each among the constants
+fn instance_fits(constants: u8, c: Clause, instance: [u8; 12], count: u8) -> bool
+    requires { ⌜ count ≤ mostVariables ⌝ }
+    ensures { λ r. ⌜ r ≡ instanceFits constants (clauseOf c) (take count instance) ⌝ }
+{
+    if count != c.variables {
+        return false;
+    }
+    let n = count as usize;
+    let mut j: usize = 0;
+    while j < n {
+        let x = instance[j];
+        if x < 1 {
+            return false;
+        }
+        if constants < x {
+            return false;
+        }
+        j += 1;
+    }
+    true
+}
+
+// A literal of the clause, and an instance for it
+fn literal_named(constants: u8, c: Clause, l: u8, instance: [u8; 12], count: u8) -> bool
+    requires { ⌜ count ≤ mostVariables ⌝ }
+    ensures { λ r. ⌜ r ≡ (literalExists (clauseOf c) l && instanceFits constants (clauseOf c) (take count instance)) ⌝ }
+{
+    if literal_exists(c, l) {
+        return instance_fits(constants, c, instance, count);
+    }
+    false
+}
+
+// Two different literals of the conflict
+fn two_literals(n: Instanced, i: u8, j: u8) -> bool
+    ensures { λ r. ⌜ r ≡ (literalExists (instancedOf n .clause) i && (literalExists (instancedOf n .clause) j && not (eqb i j))) ⌝ }
+{
+    let c = n.clause;
+    if literal_exists(c, i) {
+        if literal_exists(c, j) {
+            return i != j;
+        }
+    }
+    false
+}
+
+// The place of a number, from 0
+fn place_of(l: u8) -> usize
+    ensures { λ r. ⌜ r ≡ l - 1 ⌝ }
+{
+    if l == 0 {
+        return 0;
+    }
+    l as usize - 1
+}
+
+// ---- what the rules look at
+
+// "The atom of the literal, with the sign given"
+fn decided_literal(c: Clause, l: u8, positive: bool, instance: [u8; 12], count: u8) -> Literal
+    ensures { λ r. ⌜ r ≡ decidedLiteral (clauseOf c) (l - 1) positive (take count instance) ⌝ }
+{
+    let mut g = literal_instance(c, l, instance, count);
+    g.positive = positive;
+    g
+}
+
+fn is_propagated(e: Entry) -> bool
+    ensures { λ r. ⌜ r ≡ isPropagated (e .kind) ⌝ }
+{
+    let kind = e.kind;
+    match kind {
+        Kind::Background => false,
+        Kind::Propagated => true,
+        Kind::Decided => false,
+    }
+}
+
+// The instance of the conflict's literal l
+fn conflict_instance(n: Instanced, l: u8) -> Literal
+    ensures { λ r. ⌜ r ≡ literalInstance (instancedOf n) l ⌝ }
+{
+    let c = n.clause;
+    let instance = n.instance;
+    literal_instance(c, l, instance, c.variables)
+}
+
+// Whether two literals of the conflict have the same instance
+fn same_instance(n: Instanced, i: u8, j: u8) -> bool
+    ensures { λ r. ⌜ r ≡ sameLiteral (literalInstance (instancedOf n) i) (literalInstance (instancedOf n) j) ⌝ }
+{
+    let g = conflict_instance(n, i);
+    let h = conflict_instance(n, j);
+    same_literal(g, h)
+}
+
+// Whether the entry's literal is the complement of the conflict's literal l
+fn is_complement(e: Entry, n: Instanced, l: u8) -> bool
+    ensures { λ r. ⌜ r ≡ sameLiteral (calculus.complement (e .literal)) (literalInstance (instancedOf n) l) ⌝ }
+{
+    let own = e.literal;
+    let g = complement(own);
+    let h = conflict_instance(n, l);
+    same_literal(g, h)
+}
+
+// Whether g is the instance of a literal of the conflict
+fn has_instance(n: Instanced, g: Literal) -> bool
+    ensures { λ r. ⌜ r ≡ anyOf (λ k. sameLiteral g (calculus.ground (instancedOf n .instance) k)) (instancedOf n .clause .literals) ⌝ }
+{
+    let c = n.clause;
+    let instance = n.instance;
+    let m = literals_of(c);
+    let v = c.variables;
+    let mut j: usize = 0;
+    while j < m {
+        let k = c.literals[j];
+        let h = ground(k, instance, v);
+        if same_literal(g, h) {
+            return true;
+        }
+        j += 1;
+    }
+    false
+}
+
+// Whether the entry is a literal whose complement is in the conflict
+fn in_conflict(n: Instanced, e: Entry) -> bool
+    ensures { λ r. ⌜ r ≡ complementInConflict (instancedOf n) (entryOf e ∷ []) ⌝ }
+{
+    let kind = e.kind;
+    let l = e.literal;
+    let g = complement(l);
+    match kind {
+        Kind::Background => false,
+        Kind::Propagated => has_instance(n, g),
+        Kind::Decided => has_instance(n, g),
+    }
+}
+
+// How many there are, and that the array is whole
+fn count_of(d: Instances) -> usize
+    ensures { λ r. ⌜ (r ≡ d .count) × (length (d .at) ≡ 8) ⌝ }
+{
+    d.count as usize
+}
+
+// Whether g is among the ground literals
+fn among(d: Instances, g: Literal) -> bool
+    ensures { λ r. ⌜ r ≡ anyOf (sameLiteral g) (take (d .count) (d .at)) ⌝ }
+{
+    let n = count_of(d);
+    let mut j: usize = 0;
+    while j < n {
+        if 8 <= j {
+            return false;
+        }
+        let h = d.at[j];
+        if same_literal(g, h) {
+            return true;
+        }
+        j += 1;
+    }
+    false
+}
+
+// Whether L's instance is again in D
+fn again(n: Instanced, l: u8) -> bool
+    ensures { λ r. ⌜ r ≡ anyOf (sameLiteral (literalInstance (instancedOf n) l)) (otherInstances (instancedOf n) l) ⌝ }
+{
+    let g = conflict_instance(n, l);
+    let d = other_instances(n, l);
+    among(d, g)
+}
+
+// The conflict resolved at its literal l with the reason that the entry's step gives, of that step's clause
+fn resolvent(n: Instanced, l: u8, e: Entry, clause: Clause) -> Merged
+    ensures { λ r. ⌜ r ≡ resolved n (l - 1) (reasonOf clause (e .number - 1) (e .instance) .of) (reasonOf clause (e .number - 1) (e .instance) .own) ⌝ }
+{
+    let tau = e.instance;
+    let reason = reason_of(clause, place_of(e.number), tau);
+    let of = reason.of;
+    merging::resolve(n, place_of(l), of, reason.own)
+}
+
+// ---- the rules
+
+impl Run {
+    // "8 Grow (count). No conflict. So many constants are added at the end; trail empty, k is 0."
+    pub fn grow(self, amount: u8) -> Stepped
+        requires { ⌜ Kept self ⌝ }
+        ensures { λ a. ⌜ Answers self (Grow amount) a ⌝ }
+    {
+        if self.stands {
+            return Stepped {
+                run: self,
+                number: WRONG_MOMENT,
+                place: 0,
+            };
+        }
+        if amount < 1 {
+            return Stepped {
+                run: self,
+                number: NO_SUCH,
+                place: 0,
+            };
+        }
+        if MOST_CONSTANTS - (self.constants as usize) < amount as usize {
+            return Stepped {
+                run: self,
+                number: NO_ROOM,
+                place: 0,
+            };
+        }
+        let blank = empty_trail();
+        let mut next = self;
+        next.constants = self.constants + amount;
+        next.level = 0;
+        next.length = 0;
+        next.trail = blank;
+        Stepped {
+            run: next,
+            number: 0,
+            place: 0,
+        }
+    }
+
+    // "6 Skip. The last entry goes, if it is an atom or if its complement is not in the conflict. A decision skipped lowers k by one."
+    pub fn skip(self) -> Stepped
+        requires { ⌜ Kept self ⌝ }
+        ensures { λ a. ⌜ Answers self Skip a ⌝ }
+    {
+        if !self.stands {
+            return Stepped {
+                run: self,
+                number: WRONG_MOMENT,
+                place: 0,
+            };
+        }
+        let length = self.length;
+        if length < 1 {
+            return Stepped {
+                run: self,
+                number: NO_ENTRY,
+                place: 0,
+            };
+        }
+        let k = length as usize - 1;
+        let e = self.trail[k];
+        let n = self.conflict;
+        if in_conflict(n, e) {
+            return Stepped {
+                run: self,
+                number: WRONG_LITERAL,
+                place: 0,
+            };
+        }
+        let trail = self.trail;
+        let shorter = drop_last(trail, length);
+        let mut next = self;
+        next.length = length - 1;
+        next.trail = shorter;
+        if is_decision(e) {
+            next.level = self.level - 1;
+        }
+        Stepped {
+            run: next,
+            number: 0,
+            place: 0,
+        }
+    }
+
+    // "5 Factorize (two different literals with the same instance). Their variables are merged; the one with the larger number goes."
+    pub fn factorize(self, i: u8, j: u8) -> Stepped
+        requires { ⌜ Kept self ⌝ }
+        ensures { λ a. ⌜ Answers self (Factorize i j) a ⌝ }
+    {
+        if !self.stands {
+            return Stepped {
+                run: self,
+                number: WRONG_MOMENT,
+                place: 0,
+            };
+        }
+        let n = self.conflict;
+        if !two_literals(n, i, j) {
+            return Stepped {
+                run: self,
+                number: NO_SUCH,
+                place: 0,
+            };
+        }
+        if !same_instance(n, i, j) {
+            return Stepped {
+                run: self,
+                number: WRONG_LITERAL,
+                place: 0,
+            };
+        }
+        let merged = merging::factorize(n, place_of(i), place_of(j));
+        let of = merged.of;
+        let mut next = self;
+        next.conflict = of;
+        Stepped {
+            run: next,
+            number: 0,
+            place: 0,
+        }
+    }
+
+    // "4 Resolve (literal L'). The last entry is a propagated literal, the complement of L'." It is handed the last entry's clause, from
+    // which the entry's reason follows.
+    pub fn resolve(self, clause: Clause, l: u8) -> Stepped
+        requires { ⌜ Handed self clause (Resolve l) ⌝ }
+        ensures { λ a. ⌜ Answered self clause (Resolve l) a ⌝ }
+    {
+        if !self.stands {
+            return Stepped {
+                run: self,
+                number: WRONG_MOMENT,
+                place: 0,
+            };
+        }
+        let n = self.conflict;
+        let c = n.clause;
+        if !literal_exists(c, l) {
+            return Stepped {
+                run: self,
+                number: NO_SUCH,
+                place: 0,
+            };
+        }
+        let length = self.length;
+        if length < 1 {
+            return Stepped {
+                run: self,
+                number: NO_ENTRY,
+                place: 0,
+            };
+        }
+        let k = length as usize - 1;
+        let e = self.trail[k];
+        if !is_propagated(e) {
+            return Stepped {
+                run: self,
+                number: NO_ENTRY,
+                place: 0,
+            };
+        }
+        if !is_complement(e, n, l) {
+            return Stepped {
+                run: self,
+                number: WRONG_LITERAL,
+                place: 0,
+            };
+        }
+        let merged = resolvent(n, l, e, clause);
+        if !merged.fits {
+            return Stepped {
+                run: self,
+                number: NO_ROOM,
+                place: 0,
+            };
+        }
+        let of = merged.of;
+        let mut next = self;
+        next.conflict = of;
+        Stepped {
+            run: next,
+            number: 0,
+            place: 0,
+        }
+    }
+
+    // "2 Decide (clause, literal, sign, instance). No conflict. The atom of the literal, with the sign given, is undefined. It is appended, k
+    // grows by one."
+    pub fn decide(
+        self,
+        c: u8,
+        clause: Clause,
+        l: u8,
+        sign: u8,
+        instance: [u8; 12],
+        count: u8,
+    ) -> Stepped
+        requires { ⌜ Handed self clause (Decide c l sign (exactly count 0 instance)) ⌝ }
+        ensures { λ a. ⌜ Answered self clause (Decide c l sign (exactly count 0 instance)) a ⌝ }
+    {
+        if MOST_VARIABLES < count as usize {
+            return Stepped {
+                run: self,
+                number: ABOVE_LIMIT,
+                place: 0,
+            };
+        }
+        if 1 < sign {
+            return Stepped {
+                run: self,
+                number: OUT_OF_RANGE,
+                place: 0,
+            };
+        }
+        if self.stands {
+            return Stepped {
+                run: self,
+                number: WRONG_MOMENT,
+                place: 0,
+            };
+        }
+        if !clause_exists(self.input, self.learned, c) {
+            return Stepped {
+                run: self,
+                number: NO_SUCH,
+                place: 0,
+            };
+        }
+        if !literal_named(self.constants, clause, l, instance, count) {
+            return Stepped {
+                run: self,
+                number: NO_SUCH,
+                place: 0,
+            };
+        }
+        let positive = sign == 1;
+        let g = decided_literal(clause, l, positive, instance, count);
+        let trail = self.trail;
+        let length = self.length;
+        if !undefined(trail, length, g) {
+            return Stepped {
+                run: self,
+                number: ALREADY_DEFINED,
+                place: 0,
+            };
+        }
+        let grown = push_decided(trail, length, g, c, l, positive, instance, count);
+        if !grown.fits {
+            return Stepped {
+                run: self,
+                number: NO_ROOM,
+                place: 0,
+            };
+        }
+        let longer = grown.trail;
+        let mut next = self;
+        next.level = self.level + 1;
+        next.length = grown.length;
+        next.trail = longer;
+        Stepped {
+            run: next,
+            number: 0,
+            place: 0,
+        }
+    }
+
+    // "3 Conflict (clause, instance). No conflict. All literals false; trail and clause atoms together possible. The clause becomes the
+    // conflict."
+    pub fn conflict(self, c: u8, clause: Clause, instance: [u8; 12], count: u8) -> Stepped
+        requires { ⌜ Handed self clause (Conflict c (exactly count 0 instance)) ⌝ }
+        ensures { λ a. ⌜ Answered self clause (Conflict c (exactly count 0 instance)) a ⌝ }
+    {
+        if MOST_VARIABLES < count as usize {
+            return Stepped {
+                run: self,
+                number: ABOVE_LIMIT,
+                place: 0,
+            };
+        }
+        if self.stands {
+            return Stepped {
+                run: self,
+                number: WRONG_MOMENT,
+                place: 0,
+            };
+        }
+        if !clause_exists(self.input, self.learned, c) {
+            return Stepped {
+                run: self,
+                number: NO_SUCH,
+                place: 0,
+            };
+        }
+        if !instance_fits(self.constants, clause, instance, count) {
+            return Stepped {
+                run: self,
+                number: NO_SUCH,
+                place: 0,
+            };
+        }
+        let trail = self.trail;
+        let length = self.length;
+        let none = no_literal();
+        let place = first_not_false(trail, length, clause, instance, count, false, none);
+        if 0 < place {
+            return Stepped {
+                run: self,
+                number: NOT_FALSE,
+                place: place,
+            };
+        }
+        if !possible(self.constants, trail, length, clause, instance, count) {
+            return Stepped {
+                run: self,
+                number: NOT_POSSIBLE,
+                place: 0,
+            };
+        }
+        let constants = first_constants(instance, count);
+        let of = Instanced {
+            clause: clause,
+            instance: constants,
+        };
+        let mut next = self;
+        next.stands = true;
+        next.conflict = of;
+        Stepped {
+            run: next,
+            number: 0,
+            place: 0,
+        }
+    }
+
+    // "1 Propagate (clause, literal L, instance). No conflict. L's instance is undefined; every literal with another instance is false; trail
+    // atoms and the clause's atoms together are possible. Appended: L, then the atoms not yet on the trail, in clause order, each once."
+    pub fn propagate(self, c: u8, clause: Clause, l: u8, instance: [u8; 12], count: u8) -> Stepped
+        requires { ⌜ Handed self clause (Propagate c l (exactly count 0 instance)) ⌝ }
+        ensures { λ a. ⌜ Answered self clause (Propagate c l (exactly count 0 instance)) a ⌝ }
+    {
+        if MOST_VARIABLES < count as usize {
+            return Stepped {
+                run: self,
+                number: ABOVE_LIMIT,
+                place: 0,
+            };
+        }
+        if self.stands {
+            return Stepped {
+                run: self,
+                number: WRONG_MOMENT,
+                place: 0,
+            };
+        }
+        if !clause_exists(self.input, self.learned, c) {
+            return Stepped {
+                run: self,
+                number: NO_SUCH,
+                place: 0,
+            };
+        }
+        if !literal_named(self.constants, clause, l, instance, count) {
+            return Stepped {
+                run: self,
+                number: NO_SUCH,
+                place: 0,
+            };
+        }
+        let g = literal_instance(clause, l, instance, count);
+        let trail = self.trail;
+        let length = self.length;
+        if !undefined(trail, length, g) {
+            return Stepped {
+                run: self,
+                number: ALREADY_DEFINED,
+                place: 0,
+            };
+        }
+        let place = first_not_false(trail, length, clause, instance, count, true, g);
+        if 0 < place {
+            return Stepped {
+                run: self,
+                number: NOT_FALSE,
+                place: place,
+            };
+        }
+        if !possible(self.constants, trail, length, clause, instance, count) {
+            return Stepped {
+                run: self,
+                number: NOT_POSSIBLE,
+                place: 0,
+            };
+        }
+        let grown = append_propagated(trail, length, clause, c, l, instance, count);
+        if !grown.fits {
+            return Stepped {
+                run: self,
+                number: NO_ROOM,
+                place: 0,
+            };
+        }
+        let longer = grown.trail;
+        let mut next = self;
+        next.length = grown.length;
+        next.trail = longer;
+        Stepped {
+            run: next,
+            number: 0,
+            place: 0,
+        }
+    }
+
+    // "7 Backtrack (literal L, the others D). L's instance is not in D; i is the largest level in D, 0 if D is empty; L's level is above i. The
+    // trail is cut just before decision i + 1. Kept atoms and conflict atoms together are possible. The conflict is learned; L and its new
+    // atoms are appended as Propagate would append them from the learned clause; k is i, no conflict."
+    pub fn backtrack(self, l: u8) -> Stepped
+        requires { ⌜ Kept self ⌝ }
+        ensures { λ a. ⌜ Answers self (Backtrack l) a ⌝ }
+    {
+        if !self.stands {
+            return Stepped {
+                run: self,
+                number: WRONG_MOMENT,
+                place: 0,
+            };
+        }
+        let n = self.conflict;
+        let c = n.clause;
+        if !literal_exists(c, l) {
+            return Stepped {
+                run: self,
+                number: NO_SUCH,
+                place: 0,
+            };
+        }
+        if again(n, l) {
+            return Stepped {
+                run: self,
+                number: WRONG_LITERAL,
+                place: 0,
+            };
+        }
+        let trail = self.trail;
+        let length = self.length;
+        let i = back_level(trail, length, n, l);
+        let g = conflict_instance(n, l);
+        if level_of(trail, length, g) <= i {
+            return Stepped {
+                run: self,
+                number: NOT_ABOVE,
+                place: 0,
+            };
+        }
+        let part = cut(trail, length, i);
+        let kept = part.trail;
+        let instance = n.instance;
+        if !possible(self.constants, kept, part.length, c, instance, c.variables) {
+            return Stepped {
+                run: self,
+                number: KEPT_NOT_POSSIBLE,
+                place: 0,
+            };
+        }
+        let number = self.input + self.learned + 1;
+        let grown = append_propagated(kept, part.length, c, number, l, instance, c.variables);
+        if !grown.fits {
+            return Stepped {
+                run: self,
+                number: NO_ROOM,
+                place: 0,
+            };
+        }
+        if MOST_LEARNED <= self.learned as usize {
+            return Stepped {
+                run: self,
+                number: NO_ROOM,
+                place: 0,
+            };
+        }
+        let longer = grown.trail;
+        let blank = no_instanced();
+        let mut next = self;
+        next.learned = self.learned + 1;
+        next.level = i;
+        next.length = grown.length;
+        next.stands = false;
+        next.trail = longer;
+        next.conflict = blank;
+        Stepped {
+            run: next,
+            number: 0,
+            place: 0,
+        }
+    }
+
+    // One proposed step, handed the clause that it looks at: 7 for an unknown rule, and else what its rule answers, which is 3 for an
+    // instance too long and 4 for a Decide sign above 1 before anything else.
+    pub fn step(self, clause: Clause, x: Step) -> Stepped
+        requires { ⌜ Handed self clause (stepOf x) ⌝ }
+        ensures { λ a. ⌜ Answered self clause (stepOf x) a ⌝ }
+    {
+        let rule = x.rule;
+        let instance = x.instance;
+        match rule {
+            1 => self.propagate(x.clause, clause, x.literal, instance, x.count),
+            2 => self.decide(x.clause, clause, x.literal, x.sign, instance, x.count),
+            3 => self.conflict(x.clause, clause, instance, x.count),
+            4 => self.resolve(clause, x.literal),
+            5 => self.factorize(x.literal, x.other),
+            6 => self.skip(),
+            7 => self.backtrack(x.literal),
+            8 => self.grow(x.amount),
+            _ => Stepped {
+                run: self,
+                number: UNKNOWN_RULE,
+                place: 0,
+            },
+        }
+    }
+}

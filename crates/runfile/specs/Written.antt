@@ -1,0 +1,59 @@
+-- Writing a run file: the bytes of a header, its clauses and its steps, in the order in which they are read.
+use mathlib.Core.List.{List, [], _∷_, _++_}
+use mathlib.Core.Bool.{cond}
+use Prim.Native.Nat.{ℕ, zero, suc, _-_, _/_, _%_}
+use lib.IntN.{ℤ, pos, negsuc}
+use lib.ListN.{length, take}
+use Rattle.basis.specs.declared.Atom.{Atom}
+use Rattle.basis.specs.declared.Literal.{Literal}
+use Rattle.calculus.specs.Clauses.{arguments, Clause}
+use Rattle.calculus.specs.Class.{arityOf}
+use Rattle.calculus.specs.States.{Step, Propagate, Decide, Conflict, Resolve, Factorize, Skip, Backtrack, Grow, Unknown}
+use Rattle.runfile.specs.File.{letters, File}
+
+-- A number as n bytes, "little-endian"
+abbrev pub bytesOf : ℕ → ℕ → List ℕ
+bytesOf zero w = []
+bytesOf (suc n) w = w % 256 ∷ bytesOf n (w / 256)
+
+-- A signed 32-bit number as two's complement
+abbrev pub unsigned : ℤ → ℕ
+unsigned (pos n) = n
+unsigned (negsuc n) = 4294967295 - n
+
+-- What is written for each member of a list, one after the other
+abbrev pub joined : {A : Type 0} → (A → List ℕ) → List A → List ℕ
+joined w [] = []
+joined w (x ∷ xs) = w x ++ joined w xs
+
+abbrev pub writtenAtom : Atom → List ℕ
+writtenAtom a = a .p ∷ a .q ∷ bytesOf 4 (unsigned (a .c))
+
+abbrev pub writtenLiteral : List ℕ → Literal → List ℕ
+writtenLiteral arities l = cond (l .positive) 1 0 ∷ l .predicate ∷ take (arityOf arities (l .predicate)) (arguments l)
+
+unfoldable pub writtenClause : List ℕ → Clause → List ℕ
+writtenClause arities C = C .variables ∷ length (C .atoms) ∷ length (C .literals) ∷ joined writtenAtom (C .atoms) ++ joined (writtenLiteral arities) (C .literals)
+
+abbrev pub writtenInstance : List ℕ → List ℕ
+writtenInstance τ = length τ ∷ τ
+
+unfoldable pub writtenStep : Step → List ℕ
+writtenStep (Propagate c l τ) = 1 ∷ c ∷ l ∷ writtenInstance τ
+writtenStep (Decide c l sign τ) = 2 ∷ c ∷ l ∷ sign ∷ writtenInstance τ
+writtenStep (Conflict c τ) = 3 ∷ c ∷ writtenInstance τ
+writtenStep (Resolve l) = 4 ∷ l ∷ []
+writtenStep (Factorize l m) = 5 ∷ l ∷ m ∷ []
+writtenStep Skip = 6 ∷ []
+writtenStep (Backtrack l) = 7 ∷ l ∷ []
+writtenStep (Grow n) = 8 ∷ n ∷ []
+writtenStep (Unknown rule) = rule ∷ []
+
+-- What stands before the first step
+unfoldable pub writtenHeader : File → List ℕ
+writtenHeader F =
+    letters ++ bytesOf 2 1 ++ (F .constants ∷ length (F .arities) ∷ F .arities ++ (length (F .input) ∷
+    joined (writtenClause (F .arities)) (F .input) ++ bytesOf 2 (length (F .steps))))
+
+abbrev pub written : File → List ℕ
+written F = writtenHeader F ++ joined writtenStep (F .steps)

@@ -1,0 +1,8 @@
+-- Laws of stored trails and of the walks over them, and the proofs of the functions.
+pub mod Walks
+pub mod Counts
+pub mod NotFalse
+pub mod Stored
+pub mod Atoms
+pub mod Others
+pub mod Asked

@@ -1,0 +1,175 @@
+-- A trail stored in an array: what an entry pushed or taken away does to it, and that the record of a trail says that trail.
+use mathlib.Core.Path.{_∙_, _≡_, ap, ap₂, refl, subst, sym}
+use mathlib.Core.List.{List, [], _++_, _∷_, map, map-append, reverse, reverseAux-eq}
+use mathlib.Core.Bool.{Bool, cond, false, true}
+use Prim.Native.Nat.{_+_, _-_, _<_, _≤_, pred, suc, zero, ℕ}
+use native.Mathlib.Numerals.{add-one}
+use native.Mathlib.Omega.{arith}
+use lib.Dec.{leb}
+use lib.ListN.{getD, length, length-map, length-reverse, length-take, set, take}
+use lib.Seq.{getD-set-other, getD-set-same, length-take-le, take-all, take-suc}
+use borrow.Author.Tests.{le-leb, lt-leb}
+use Rattle.basis.specs.Atoms.{noAtom}
+use Rattle.basis.specs.Limits.{mostEntries, mostVariables}
+use Rattle.lists.proofs.Arrays.{exactly-length, exactly-take, map-exactly, set-exactly, take-exactly, unset-exactly}
+use Rattle.lists.specs.Arrays.{exactly}
+use Rattle.trail.specs.Answers.{Grew}
+use Rattle.trail.specs.Entries.{AllShort, Held, Recorded, Short, Stored, entryOf, noEntry, packedEntry, packedTrail, pastEnd, trailOf}
+use Rattle.trail.specs.declared.Entry.{Entry}
+use Rattle.trail.specs.declared.Grown.{Grown}
+use Rattle.calculus.proofs.Trails.{push-ind}
+use Rattle.calculus.specs.Clauses.{Clause, ground, groundAtoms, noLiteral}
+use Rattle.calculus.specs.Rules.{propagatedTrail, withoutLast}
+use Rattle.calculus.specs.Trails as calculus
+use Rattle.calculus.specs.Trails.{Trail, background, cut, decided, decisions, foreground, propagated}
+
+-- ---- one entry
+
+pub entry-says : (e : calculus.Entry) → Short e → entryOf (packedEntry e) ≡ e
+entry-says (background a) h = refl
+entry-says (foreground l (propagated c n τ)) h = ap (λ k. foreground l (propagated c n k)) (take-exactly 0 mostVariables τ h)
+entry-says (foreground l (decided c n b τ)) h = ap (λ k. foreground l (decided c n b k)) (take-exactly 0 mostVariables τ h)
+
+-- The first constants of an array of twelve are at most twelve.
+few-constants : (n : ℕ) (τ : List ℕ) → length (take n (exactly mostVariables 0 τ)) ≤ mostVariables
+few-constants n τ = omega (arith, length-take n (exactly mostVariables 0 τ), exactly-length 0 mostVariables τ)
+
+record-short : (e : calculus.Entry) → Short (entryOf (packedEntry e))
+record-short (background a) = tt
+record-short (foreground l (propagated c n τ)) = few-constants (length τ) τ
+record-short (foreground l (decided c n b τ)) = few-constants (length τ) τ
+
+-- ---- the array
+
+pub trail-length : (es : List Entry) (n : ℕ) → length (trailOf es n) ≡ n
+trail-length es zero = refl
+trail-length es (suc n) = ap suc (trail-length es n)
+
+-- A slot at or past the length is not seen.
+pub trail-unseen : (es : List Entry) (n i : ℕ) (x : Entry) → n ≤ i → trailOf (set es i x) n ≡ trailOf es n
+trail-unseen es zero i x h = refl
+trail-unseen es (suc n) i x h = ap₂ {C = Trail} (λ a b. entryOf a ∷ b) (getD-set-other es i n x pastEnd (omega arith)) (trail-unseen es n i x (omega arith))
+
+pub packed-length : (t : Trail) → length (packedTrail t) ≡ mostEntries
+unfolding packedTrail
+packed-length t = exactly-length noEntry mostEntries (map packedEntry (reverse t))
+
+row-length : (t : Trail) → length (map packedEntry (reverse t)) ≡ length t
+row-length t = simp (length-map, length-reverse)
+
+row-more : (x : calculus.Entry) (t : Trail) → map packedEntry (reverse (x ∷ t)) ≡ map packedEntry (reverse t) ++ (packedEntry x ∷ [])
+row-more x t = ap (map packedEntry) (reverseAux-eq t (x ∷ [])) ∙ map-append packedEntry (reverse t) (x ∷ [])
+
+pub packed-push : (x : calculus.Entry) (t : Trail) → length t < mostEntries → set (packedTrail t) (length t) (packedEntry x) ≡ packedTrail (x ∷ t)
+unfolding packedTrail
+packed-push x t h =
+    ap (λ n. set (exactly mostEntries noEntry (map packedEntry (reverse t))) n (packedEntry x)) (sym (row-length t))
+    ∙ set-exactly noEntry mostEntries (map packedEntry (reverse t)) (packedEntry x) (omega (arith, row-length t))
+    ∙ ap (exactly mostEntries noEntry) (sym (row-more x t))
+
+pub packed-drop : (x : calculus.Entry) (t : Trail) → set (packedTrail (x ∷ t)) (length t) noEntry ≡ packedTrail t
+unfolding packedTrail
+packed-drop x t =
+    ap₂ (λ r n. set (exactly mostEntries noEntry r) n noEntry) (row-more x t) (sym (row-length t))
+    ∙ unset-exactly noEntry mostEntries (map packedEntry (reverse t)) (packedEntry x)
+
+-- The constants of an instance from place k′ on made blank, from the last on
+pub blanked : (l : List ℕ) (k k′ : ℕ) → length l ≡ mostVariables → k ≡ suc k′ → k ≤ mostVariables → set (exactly mostVariables 0 (take k l)) k′ 0 ≡ exactly mostVariables 0 (take k′ l)
+blanked l k k′ e q h =
+    ap₂ (λ r n. set (exactly mostVariables 0 r) n 0) (ap (λ n. take n l) q ∙ take-suc l k′ 0 (omega arith)) (sym (length-take-le k′ l (omega arith)))
+    ∙ unset-exactly 0 mostVariables (take k′ l) (getD l k′ 0)
+
+pub whole-constants : (l : List ℕ) → length l ≡ mostVariables → l ≡ exactly mostVariables 0 (take mostVariables l)
+whole-constants l e = sym (ap (exactly mostVariables 0) (take-all mostVariables l (omega arith)) ∙ exactly-take 0 mostVariables l (omega arith) ∙ take-all mostVariables l (omega arith))
+
+-- ---- stored trails
+
+pub stored-length : {es : List Entry} {n : ℕ} {t : Trail} → Stored es n t → length t ≡ n
+stored-length {es} {n} S = ap length (sym (S .says)) ∙ trail-length es n
+
+pub stored-held : {es : List Entry} {n : ℕ} {t : Trail} → Stored es n t → Held es n
+stored-held S = record { few = S .few; says = refl; packed = S .packed ∙ ap packedTrail (sym (S .says)) }
+
+pub stored-none : Stored (packedTrail []) 0 []
+stored-none = record { few = omega arith; says = refl; packed = refl }
+
+pub stored-push : {es : List Entry} {n : ℕ} {t : Trail} → Stored es n t → n < mostEntries → (x : calculus.Entry) → Short x → Stored (set es n (packedEntry x)) (suc n) (x ∷ t)
+stored-push {es} {n} {t} S h x s = record {
+  few = h;
+  says = ap₂ {C = Trail} (λ a b. a ∷ b)
+      (ap entryOf (getD-set-same es n (packedEntry x) pastEnd (omega (arith, ap length (S .packed), packed-length t))) ∙ entry-says x s)
+      (trail-unseen es n n (packedEntry x) (omega arith) ∙ S .says);
+  packed = ap₂ (λ a k. set a k (packedEntry x)) (S .packed) (sym (stored-length S)) ∙ packed-push x t (omega (arith, stored-length S));
+}
+
+pub stored-pushed : {es : List Entry} {n : ℕ} {t : Trail} {e : Entry} {x : calculus.Entry} → Stored es n t → n < mostEntries → Recorded e x → Stored (set es n e) (n + 1) (x ∷ t)
+stored-pushed {x = x} S h R = rw (add-one, R .is) (stored-push S h x (R .short))
+
+pub stored-drop : {es : List Entry} {n : ℕ} {x : calculus.Entry} {t : Trail} → Stored es (suc n) (x ∷ t) → Stored (set es n noEntry) n t
+stored-drop {es} {n} {x} {t} S = record {
+  few = omega (arith, S .few);
+  says = trail-unseen es n n noEntry (omega arith) ∙ ap withoutLast (S .says);
+  packed = ap₂ (λ a k. set a k noEntry) (S .packed) (sym (ap pred (stored-length S))) ∙ packed-drop x t;
+}
+
+-- The last of the first k entries of ts taken away
+pub stored-back : (es ts : List Entry) (k k′ : ℕ) (e : Entry) → k ≡ suc k′ → e ≡ noEntry → Stored es k (trailOf ts k) → Stored (set es k′ e) k′ (trailOf ts k′)
+stored-back es ts k k′ e q b S = rw b (stored-drop (rw q at S))
+
+pub dropped : (es : List Entry) (n k : ℕ) (e : Entry) → n ≡ suc k → e ≡ noEntry → Held es n → Stored (set es k e) k (withoutLast (trailOf es n))
+dropped es n k e q b H = rw (q, b) (stored-drop (rw q at H))
+
+pub dropped-none : (es : List Entry) (n : ℕ) → n ≡ 0 → Held es n → Stored es (n - 1) (withoutLast (trailOf es n))
+dropped-none es n q H = rw q (rw q at H)
+
+-- The record of a trail within the limits says that trail.
+pub packed-stored : (t : Trail) → length t ≤ mostEntries → AllShort t → Stored (packedTrail t) (length t) t
+packed-stored [] h s = stored-none
+packed-stored (x ∷ t) h s =
+    subst (λ a. Stored a (suc (length t)) (x ∷ t)) (packed-push x t h) (stored-push (packed-stored t (omega arith) (s .1)) h x (s .0))
+
+-- Every entry of a stored trail is short.
+slot-short : (l : Trail) (k : ℕ) → k < length l → Short (entryOf (getD (map packedEntry l) k pastEnd))
+slot-short [] k h = absurd (omega arith)
+slot-short (x ∷ l) zero h = record-short x
+slot-short (x ∷ l) (suc k) h = slot-short l k (omega arith)
+
+entry-short : (t : Trail) (k : ℕ) → k < mostEntries → Short (entryOf (getD (packedTrail t) k pastEnd))
+unfolding packedTrail
+entry-short t k h =
+    subst (λ a. Short (entryOf (getD a k pastEnd))) (map-exactly (background noAtom) packedEntry mostEntries (reverse t))
+    (slot-short (exactly mostEntries (background noAtom) (reverse t)) k (omega (arith, exactly-length (background noAtom) mostEntries (reverse t))))
+
+pub held-short : (es : List Entry) (n k : ℕ) → Held es n → k ≤ n → AllShort (trailOf es k)
+held-short es n zero H h = tt
+held-short es n (suc k) H h = (subst (λ a. Short (entryOf (getD a k pastEnd))) (sym (H .packed)) (entry-short (trailOf es n) k (omega (arith, H .few))), held-short es n k H (omega arith))
+
+pub stored-short : {es : List Entry} {n : ℕ} {t : Trail} → Stored es n t → AllShort t
+stored-short {es} {n} S = subst AllShort (S .says) (held-short es n n (stored-held S) (omega arith))
+
+-- The trails that the rules name stay short.
+pub propagated-short : (C : Clause) (i c l : ℕ) (τ : List ℕ) (t : Trail) → length τ ≤ mostVariables → AllShort t → AllShort (propagatedTrail C i τ (propagated c l τ) t)
+propagated-short C i c l τ t h s = push-ind AllShort (λ a u k. (tt, k)) (groundAtoms τ (C .atoms)) (foreground (ground τ (getD (C .literals) i noLiteral)) (propagated c l τ) ∷ t) (h, s)
+
+pub without-last-short : (t : Trail) → AllShort t → AllShort (withoutLast t)
+without-last-short [] s = tt
+without-last-short (x ∷ t) s = s .1
+
+pub cut-short : (i : ℕ) (t : Trail) → AllShort t → AllShort (cut i t)
+cut-short i [] s = tt
+cut-short i (x ∷ t) s = go (leb (decisions (x ∷ t)) i) (cut-short i t (s .1))
+  where
+    go : (b : Bool) → AllShort (cut i t) → AllShort (cond b (x ∷ t) (cut i t))
+    go true k = s
+    go false k = k
+
+-- ---- what grows
+
+pub grew-none : {g : Grown} (t : Trail) → g .fits ≡ false → Stored (g .trail) (g .length) [] → mostEntries < length t → Grew g t
+grew-none t e S h = record { fits = e ∙ sym (lt-leb (length t) mostEntries h); holds = rw e S }
+
+pub grew-all : {es : List Entry} {n : ℕ} {t : Trail} → Stored es n t → Grew (record { fits = true; length = n; trail = es }) t
+grew-all {es} {n} {t} S = record { fits = sym (le-leb (length t) mostEntries (omega (arith, stored-length S, S .few))); holds = S }
+
+pub grew-fits : {g : Grown} {t : Trail} → Grew g t → g .fits ≡ true → Stored (g .trail) (g .length) t
+grew-fits {g} {t} G e = subst (λ b. Stored (g .trail) (g .length) (cond b t [])) e (G .holds)

@@ -1,0 +1,84 @@
+-- The entry is about none of the literals passed.
+use mathlib.Core.Path.{_≡_, refl, sym, _∙_, ap}
+use mathlib.Core.Bool.{false}
+use Prim.Native.Nat.{_≤_, _-_}
+use native.Mathlib.Omega.{arith}
+use lib.ListN.{take}
+use borrow.Author.Needs.{needs}
+use Rattle.lists.proofs.Walks.{anyOf-not, anyOf-found}
+use Rattle.lists.specs.Lists.{anyOf}
+use Rattle.calculus.specs.Clauses.{noLiteral}
+use Rattle.trail.specs.Answers.{isAbout}
+use Rattle.trail.specs.Entries.{entryOf}
+use Rattle.trail.proofs.is_about_any.Statement.{statement}
+use Rattle.trail.proofs.is_about_any.Tie as tie
+
+abbrev Inv-loop : tie.InvT-loop
+Inv-loop e d n j₀ j = (j ≤ n) × (anyOf (λ l. isAbout l (entryOf e)) (take j (d .at)) ≡ false)
+
+abbrev μ-loop : tie.MeasureT-loop
+μ-loop e d n j₀ j = n - j
+
+instances-of-requires : tie.Need-instances-of-requires Inv-loop μ-loop
+instances-of-requires c κs = search needs
+
+loop-holds : tie.Need-loop-holds Inv-loop μ-loop
+loop-holds c = (omega arith, refl)
+
+mul-l : tie.Need-mul-l Inv-loop μ-loop
+mul-l c = search needs
+
+element-copy-out-l : tie.Need-element-copy-out-l Inv-loop μ-loop
+element-copy-out-l c = search needs
+
+is-about-requires : tie.Need-is-about-requires Inv-loop μ-loop
+is-about-requires c κs = search needs
+
+returns : tie.Need-returns Inv-loop μ-loop
+returns c =
+    let args = c .before .before .before .before .before .before .args in
+    let instances-of = c .before .before .before .before .before .instances-of in
+    sym
+    (ap (anyOf (λ l. isAbout l (entryOf (args .e)))) (sym (instances-of .ensures .same))
+    ∙ anyOf-found (λ l. isAbout l (entryOf (args .e))) (args .t2 .at) (c .before .before .before .before .loop .j) (instances-of .result) noLiteral (omega arith)
+    (omega (arith, instances-of .ensures .long, instances-of .ensures .few)) (sym (c .before .is-about .ensures) ∙ c .if1 .taken))
+
+add-j : tie.Need-add-j Inv-loop μ-loop
+add-j c = search needs
+
+loop-less : tie.Need-loop-less Inv-loop μ-loop
+loop-less c = search needs
+
+loop-again : tie.Need-loop-again Inv-loop μ-loop
+loop-again c =
+    let args = c .before .before .before .before .before .before .args in
+    let instances-of = c .before .before .before .before .before .instances-of in
+    let loop = c .before .before .before .before .loop in (
+      omega arith,
+      anyOf-not (λ l. isAbout l (entryOf (args .e))) (args .t2 .at) (loop .j) noLiteral (omega (arith, instances-of .ensures .long, instances-of .ensures .few))
+          (loop .inv .1) (sym (c .before .is-about .ensures) ∙ c .if1 .left),
+    )
+
+returns-2 : tie.Need-returns-2 Inv-loop μ-loop
+returns-2 c =
+    let instances-of = c .before .before .instances-of in
+    let loop = c .before .loop in
+    let e : loop .j ≡ instances-of .result = omega arith in
+    sym (ap (anyOf (λ l. isAbout l (entryOf (c .before .before .before .args .e)))) (sym (instances-of .ensures .same)) ∙ rw e at (loop .inv .1))
+
+pub is-about-any-spec : {M : Type 1} → statement M
+is-about-any-spec =
+    tie.close
+    (tie.spec
+    Inv-loop
+    μ-loop
+    instances-of-requires
+    loop-holds
+    mul-l
+    element-copy-out-l
+    is-about-requires
+    returns
+    add-j
+    loop-less
+    loop-again
+    returns-2)

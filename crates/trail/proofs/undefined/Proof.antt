@@ -1,0 +1,75 @@
+-- None of the entries passed is the literal or its complement.
+use mathlib.Core.Path.{_≡_, refl, sym, _∙_, ap}
+use mathlib.Core.Bool.{false, not}
+use Prim.Native.Nat.{_≤_, _-_}
+use native.Mathlib.Omega.{arith}
+use borrow.Author.Needs.{needs}
+use Rattle.basis.specs.Limits.{mostEntries}
+use Rattle.lists.specs.Lists.{anyOf}
+use Rattle.trail.specs.Answers.{isAbout}
+use Rattle.trail.specs.Entries.{trailOf}
+use Rattle.trail.proofs.Walks.{any-more, any-found, either-on}
+use Rattle.trail.proofs.undefined.Statement.{statement}
+use Rattle.trail.proofs.undefined.Tie as tie
+
+abbrev Inv-loop : tie.InvT-loop
+Inv-loop length l trail n k₀ k = (k ≤ n) × (n ≤ mostEntries) × (anyOf (isAbout l) (trailOf trail k) ≡ false)
+
+abbrev μ-loop : tie.MeasureT-loop
+μ-loop length l trail n k₀ k = n - k
+
+loop-holds : tie.Need-loop-holds Inv-loop μ-loop
+loop-holds c = (omega arith, search needs, refl)
+
+mul-e : tie.Need-mul-e Inv-loop μ-loop
+mul-e c = search needs
+
+array-copy-out-e : tie.Need-array-copy-out-e Inv-loop μ-loop
+array-copy-out-e c = search needs
+
+is-about-requires : tie.Need-is-about-requires Inv-loop μ-loop
+is-about-requires c κs = search needs
+
+returns : tie.Need-returns Inv-loop μ-loop
+returns c =
+    let args = c .before .before .before .before .before .args in
+    sym
+    (ap not
+    (either-on (args .l) (trailOf (args .t1) (args .length))
+    ∙ any-found (isAbout (args .l)) (args .t1) (c .before .before .before .before .loop .k) (args .length) (omega arith)
+    (sym (c .before .is-about .ensures) ∙ c .if1 .taken)))
+
+add-k : tie.Need-add-k Inv-loop μ-loop
+add-k c = search needs
+
+loop-less : tie.Need-loop-less Inv-loop μ-loop
+loop-less c = search needs
+
+loop-again : tie.Need-loop-again Inv-loop μ-loop
+loop-again c =
+    let args = c .before .before .before .before .before .args in
+    let loop = c .before .before .before .before .loop in
+    (omega arith, search needs, any-more (isAbout (args .l)) (args .t1) (loop .k) (loop .inv .2) (sym (c .before .is-about .ensures) ∙ c .if1 .left))
+
+returns-2 : tie.Need-returns-2 Inv-loop μ-loop
+returns-2 c =
+    let args = c .before .before .args in
+    let loop = c .before .loop in
+    let e : loop .k ≡ args .length = omega arith in
+    sym (ap not (either-on (args .l) (trailOf (args .t1) (args .length)) ∙ rw e at (loop .inv .2)))
+
+pub undefined-spec : {M : Type 1} → statement M
+undefined-spec =
+    tie.close
+    (tie.spec
+    Inv-loop
+    μ-loop
+    loop-holds
+    mul-e
+    array-copy-out-e
+    is-about-requires
+    returns
+    add-k
+    loop-less
+    loop-again
+    returns-2)

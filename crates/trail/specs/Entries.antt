@@ -1,0 +1,74 @@
+-- Entry records as the calculus's entries, and arrays of them as trails.
+use mathlib.Core.Path.{_≡_}
+use mathlib.Core.List.{List, [], _∷_, map, reverse}
+use mathlib.Core.Bool.{false}
+use Prim.Native.Nat.{ℕ, zero, suc, _≤_}
+use lib.ListN.{length, getD, take}
+use Rattle.basis.specs.Limits.{mostEntries, mostVariables}
+use Rattle.basis.specs.Atoms.{noAtom}
+use Rattle.lists.specs.Arrays.{exactly}
+use Rattle.calculus.specs.Clauses.{noLiteral}
+use Rattle.calculus.specs.Trails as calculus
+use Rattle.calculus.specs.Trails.{Trail, foreground, background, propagated, decided}
+use Rattle.trail.specs.declared.Entry.{Entry}
+use Rattle.trail.specs.declared.Kind.{Kind}
+use Rattle.trail.specs.declared.Kind.the-variants.{Background, Propagated, Decided}
+
+-- The blank entry stands in every slot past the trail's length.
+abbrev pub noEntry : Entry
+noEntry = record { kind = Background; atom = noAtom; literal = noLiteral; clause = 0; number = 0; sign = false; count = 0; instance = exactly mostVariables 0 [] }
+
+-- What a read past an array's end would give
+abbrev pub pastEnd : Entry
+pastEnd = record { kind = Background; atom = noAtom; literal = noLiteral; clause = 0; number = 0; sign = false; count = 0; instance = [] }
+
+-- What an entry record says, by its kind
+abbrev pub entryAs : Kind → Entry → calculus.Entry
+entryAs Background e = background (e .atom)
+entryAs Propagated e = foreground (e .literal) (propagated (e .clause) (e .number) (take (e .count) (e .instance)))
+entryAs Decided e = foreground (e .literal) (decided (e .clause) (e .number) (e .sign) (take (e .count) (e .instance)))
+
+abbrev pub entryOf : Entry → calculus.Entry
+entryOf e = entryAs (e .kind) e
+
+-- The record of an entry; what its kind has no use for is blank.
+abbrev pub packedEntry : calculus.Entry → Entry
+packedEntry (background a) = record { kind = Background; atom = a; literal = noLiteral; clause = 0; number = 0; sign = false; count = 0; instance = exactly mostVariables 0 [] }
+packedEntry (foreground l (propagated c n τ)) =
+    record { kind = Propagated; atom = noAtom; literal = l; clause = c; number = n; sign = false; count = length τ; instance = exactly mostVariables 0 τ }
+packedEntry (foreground l (decided c n b τ)) =
+    record { kind = Decided; atom = noAtom; literal = l; clause = c; number = n; sign = b; count = length τ; instance = exactly mostVariables 0 τ }
+
+-- The first n entries of an array as a trail: the last entry first
+abbrev pub trailOf : List Entry → ℕ → Trail
+trailOf es zero = []
+trailOf es (suc n) = entryOf (getD es n pastEnd) ∷ trailOf es n
+
+-- The array of a trail, blank past its length
+unfoldable pub packedTrail : Trail → List Entry
+packedTrail t = exactly mostEntries noEntry (map packedEntry (reverse t))
+
+-- The array's first n entries are the trail t, and it is blank from there on.
+pub record Stored (es : List Entry) (n : ℕ) (t : Trail) : Type 0 where
+  pub few : n ≤ mostEntries
+  pub says : trailOf es n ≡ t
+  pub packed : es ≡ packedTrail t
+
+-- Taken for granted of an array and its length where entries are added or taken away
+abbrev pub Held : List Entry → ℕ → Type 0
+Held es n = Stored es n (trailOf es n)
+
+-- An entry's instance has at most 12 constants.
+abbrev pub Short : calculus.Entry → Type 0
+Short (background a) = Unit {0}
+Short (foreground l (propagated c n τ)) = length τ ≤ mostVariables
+Short (foreground l (decided c n b τ)) = length τ ≤ mostVariables
+
+abbrev pub AllShort : Trail → Type 0
+AllShort [] = Unit {0}
+AllShort (e ∷ t) = Short e × AllShort t
+
+-- e is the record of the entry x.
+pub record Recorded (e : Entry) (x : calculus.Entry) : Type 0 where
+  pub is : e ≡ packedEntry x
+  pub short : Short x
