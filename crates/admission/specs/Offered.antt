@@ -1,8 +1,10 @@
 -- Clause records offered from outside: how they are read, and what admission answers.
+use mathlib.Core.Path.{_≡_}
 use mathlib.Core.List.{List, [], map}
 use mathlib.Core.Bool.{Bool, _&&_, cond}
 use Prim.Native.Nat.{ℕ}
 use lib.Dec.{eqb, leb, ltb}
+use lib.ListN.{length, take}
 use Rattle.basis.specs.declared.Literal.{Literal}
 use Rattle.basis.specs.Limits.{mostInput, mostPredicates, mostArguments, mostConstants}
 use Rattle.basis.specs.Refusals.{accepted}
@@ -12,7 +14,7 @@ use Rattle.lists.specs.Arrays.{exactly}
 use Rattle.calculus.specs.Class.{arityOf, clauseRefusal}
 use Rattle.calculus.specs.Admission.{Refused, admissionRefusal}
 use Rattle.clauses.specs.declared.Clause.{Clause}
-use Rattle.clauses.specs.Records.{packed}
+use Rattle.clauses.specs.Records.{clauseOf, packed}
 use Rattle.admission.specs.declared.ClauseAnswer.{ClauseAnswer}
 use Rattle.admission.specs.declared.TableAnswer.{TableAnswer}
 use Rattle.calculus.specs.Clauses as calculus
@@ -62,3 +64,13 @@ tableAnswer constants arities cs = answered (admissionRefusal constants arities 
 abbrev pub tableFits : ℕ → ℕ → List ℕ → ℕ → Bool
 tableFits constants predicates arities count =
     leb constants mostConstants && (leb predicates mostPredicates && (allOf (λ n. leb n mostArguments) (offeredArities predicates arities) && leb count mostInput))
+
+-- ---- what is handed back says what was read: proved in proofs/Says.antt
+
+abbrev pub ClauseSays : Type 0
+ClauseSays = (arities : List ℕ) (c : Clause) → clauseAnswer arities c .number ≡ accepted → clauseOf (clauseAnswer arities c .clause) ≡ offered arities c
+
+abbrev pub TableSays : Type 0
+TableSays =
+    (constants : ℕ) (arities : List ℕ) (cs : List calculus.Clause) → tableAnswer constants arities cs .number ≡ accepted
+    → map clauseOf (take (length cs) (tableAnswer constants arities cs .clauses)) ≡ cs

@@ -2,3 +2,4 @@
 pub mod Held
 pub mod Whole
 pub mod Own
+pub mod Says

@@ -14,11 +14,11 @@ use Rattle.basis.specs.Atoms.{noAtom}
 use Rattle.lists.specs.Lists.{upFrom, keepIf, anyOf, without, pairUp}
 use Rattle.lists.specs.Arrays.{exactly}
 use Rattle.lists.proofs.Arrays.{getD-held, map-exactly}
-use Rattle.lists.proofs.Walks.{keepIf-more, keepIf-short, without-short, upFrom-length}
+use Rattle.lists.proofs.Walks.{keepIf-more, without-short, upFrom-length}
 use Rattle.calculus.specs.Clauses.{arguments, noLiteral, sameAtom, renameAtom, renameLiteral, under, Instanced}
 use Rattle.calculus.specs.Merging.{join, joins, distinct, occursIn, closeUp, merge, apart, factored}
 use Rattle.calculus.specs.Class.{withinLimits}
-use Rattle.calculus.proofs.Merged.{sameAtom→eq}
+use Rattle.calculus.proofs.Merged.{sameAtom→eq, distinct-short}
 use Rattle.clauses.specs.declared.Clause.{Clause}
 use Rattle.clauses.specs.Records.{clauseOf, packedInstanced, Counted}
 use Rattle.merging.specs.declared.Atoms.{Atoms}
@@ -116,10 +116,6 @@ pub addEach-distinct : (xs ys : List Atom) → addEach (distinct xs) ys ≡ dist
 addEach-distinct xs [] = ap distinct (sym (mathlib.Core.List.append-nil xs))
 addEach-distinct xs (y ∷ ys) =
     ap (λ (l : List Atom). addEach l ys) (sym (distinct-more xs y)) ∙ addEach-distinct (xs ++ (y ∷ [])) ys ∙ ap distinct (append-assoc xs (y ∷ []) ys)
-
-pub distinct-short : (l : List Atom) → length (distinct l) ≤ length l
-distinct-short [] = omega arith
-distinct-short (x ∷ l) = omega (arith, keepIf-short (λ b. not (sameAtom x b)) (distinct l), distinct-short l)
 
 -- ---- the limits, counted on what closing up gives
 

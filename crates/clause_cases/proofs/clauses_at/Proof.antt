@@ -1,11 +1,12 @@
 -- `clause_cases::clauses_at` stays within its bounds and ends.
+-- The invariant is what the bounds need; the measure: how much is left.
 use mathlib.Core.Path.{_≡_, ap, _∙_}
 use mathlib.Core.Logic.{⊎-elim}
 use Prim.Native.Nat.{_-_, _≤_}
-use lib.ListN.{length, length-set}
 use native.Mathlib.Omega.{arith}
-use Rattle.basis.specs.Limits.{mostInput}
+use lib.ListN.{length, length-set}
 use borrow.Author.Needs.{needs}
+use Rattle.basis.specs.Limits.{mostInput}
 use Rattle.clause_cases.proofs.clauses_at.Statement.{statement}
 use Rattle.clause_cases.proofs.clauses_at.Tie as tie
 

@@ -1,10 +1,11 @@
 -- `clause_cases::constants_at` stays within its bounds and ends.
-use borrow.Author.Needs.{needs}
+-- The invariant is what the bounds need; the measure: how much is left.
 use mathlib.Core.Path.{_≡_, ap, _∙_}
 use mathlib.Core.Logic.{⊎-elim}
 use Prim.Native.Nat.{_-_, _≤_}
-use lib.ListN.{length, length-set}
 use native.Mathlib.Omega.{arith}
+use lib.ListN.{length, length-set}
+use borrow.Author.Needs.{needs}
 use Rattle.basis.specs.Limits.{mostVariables}
 use Rattle.clause_cases.proofs.constants_at.Statement.{statement}
 use Rattle.clause_cases.proofs.constants_at.Tie as tie

@@ -1,7 +1,8 @@
 -- `clause_cases::name` stays within its bounds and ends.
-use borrow.Author.Needs.{needs}
+-- The invariant is what the bounds need; the measure: how much is left.
 use Prim.Native.Nat.{_-_, _≤_}
 use lib.ListN.{length}
+use borrow.Author.Needs.{needs}
 use Rattle.clause_cases.proofs.name.Statement.{statement}
 use Rattle.clause_cases.proofs.name.Tie as tie
 

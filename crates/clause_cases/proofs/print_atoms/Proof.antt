@@ -1,6 +1,7 @@
 -- `clause_cases::print_atoms` stays within its bounds and ends.
-use borrow.Author.Needs.{needs}
+-- The invariant is what the bounds need; the measure: how much is left.
 use Prim.Native.Nat.{_-_, _≤_}
+use borrow.Author.Needs.{needs}
 use Rattle.basis.specs.Limits.{mostAtoms}
 use Rattle.clause_cases.proofs.print_atoms.Statement.{statement}
 use Rattle.clause_cases.proofs.print_atoms.Tie as tie

@@ -1,8 +1,9 @@
 -- `clause_cases::print_constants` stays within its bounds and ends.
-use borrow.Author.Needs.{needs}
+-- The invariant is what the bounds need; the measure: how much is left.
 use mathlib.Core.Path.{_≡_}
 use Prim.Native.Nat.{_-_, _≤_}
 use lib.ListN.{length}
+use borrow.Author.Needs.{needs}
 use Rattle.basis.specs.Limits.{mostVariables}
 use Rattle.clause_cases.proofs.print_constants.Statement.{statement}
 use Rattle.clause_cases.proofs.print_constants.Tie as tie

@@ -1,12 +1,13 @@
 -- `clause_cases::signed` stays within its bounds and ends.
+-- What the search leaves are bounds of numbers.
 use Prim.Native.Nat.{_%_, _<_}
 use native.Mathlib.Omega.{arith}
 use lib.IntN.{pos, negℤ}
 use mir.Syntax.{w32}
 use mir.Facts.{toZ-pos}
+use borrow.Author.Needs.{needs}
 use Rattle.integers.proofs.Linear.{sum, negated}
 use Rattle.integers.proofs.Machine.{fits-of}
-use borrow.Author.Needs.{needs}
 use Rattle.clause_cases.proofs.signed.Statement.{statement}
 use Rattle.clause_cases.proofs.signed.Tie as tie
 

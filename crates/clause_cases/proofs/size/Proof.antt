@@ -1,8 +1,9 @@
 -- `clause_cases::size` stays within its bounds and ends.
-use borrow.Author.Needs.{needs}
+-- The invariant is what the bounds need; the measure: how much is left.
 use mathlib.Core.Logic.{⊎-elim}
 use Prim.Native.Nat.{_≤_, _<_}
 use native.Mathlib.Omega.{arith}
+use borrow.Author.Needs.{needs}
 use Rattle.clause_cases.proofs.size.Statement.{statement}
 use Rattle.clause_cases.proofs.size.Tie as tie
 

@@ -1,4 +1,5 @@
 -- `clause_cases::whole` stays within its bounds and ends.
+-- What the search leaves are bounds of numbers.
 use lib.ListN.{length-map}
 use Rattle.clause_cases.proofs.whole.Statement.{statement}
 use Rattle.clause_cases.proofs.whole.Tie as tie

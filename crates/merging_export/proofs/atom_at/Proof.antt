@@ -1,4 +1,5 @@
 -- `merging_export::atom_at` meets its contract.
+-- What the search leaves follows from the tests passed and from what the calls ensure.
 use mir.Syntax.{w32}
 use mir.Facts.{toZ-ofZ}
 use borrow.Author.Needs.{sfits-of, needs}

@@ -1,11 +1,12 @@
 -- `merging_export::atoms_weight` meets its contract.
-use borrow.Author.Needs.{needs}
-use Prim.Native.Nat.{_≤_, _-_, _*_}
+-- The invariant: what is made so far is what the definition makes of the elements passed; the measure: how many are left.
 use mathlib.Core.Path.{_≡_, refl}
 use mathlib.Core.List.{map}
+use Prim.Native.Nat.{_≤_, _-_, _*_}
 use native.Mathlib.Omega.{arith}
 use lib.ListN.{length, take}
 use lib.Seq.{take-all}
+use borrow.Author.Needs.{needs}
 use Rattle.basis.specs.Limits.{mostAtoms}
 use Rattle.basis.specs.Atoms.{noAtom}
 use Rattle.merging_export.specs.Export.{total, atomWeight}

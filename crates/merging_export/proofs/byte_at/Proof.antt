@@ -1,6 +1,7 @@
 -- `merging_export::byte_at` meets its contract.
-use native.Mathlib.Omega.{arith}
+-- What the search leaves follows from the tests passed and from what the calls ensure.
 use mathlib.Core.Path.{sym}
+use native.Mathlib.Omega.{arith}
 use lib.ListN.{List·getD-eq-default}
 use borrow.Author.Needs.{needs}
 use Rattle.merging_export.proofs.byte_at.Statement.{statement}

@@ -1,10 +1,11 @@
 -- `merging_export::constants_from` meets its contract.
-use borrow.Author.Needs.{needs}
-use Prim.Native.Nat.{ℕ, _≤_, _-_, _+_}
+-- The invariant: what is made so far is what the definition makes of the elements passed; the measure: how many are left.
 use mathlib.Core.Path.{_≡_, sym, _∙_, ap₂}
 use mathlib.Core.List.{List, map}
+use Prim.Native.Nat.{ℕ, _≤_, _-_, _+_}
 use native.Mathlib.Omega.{arith}
 use lib.ListN.{getD, set}
+use borrow.Author.Needs.{needs}
 use Rattle.basis.specs.Limits.{mostVariables}
 use Rattle.lists.specs.Lists.{upFrom}
 use Rattle.lists.specs.Arrays.{exactly}

@@ -1,4 +1,5 @@
 -- `merging_export::instanced_from` meets its contract.
+-- What the search leaves follows from the tests passed and from what the calls ensure.
 use borrow.Author.Needs.{needs}
 use Rattle.merging_export.proofs.instanced_from.Statement.{statement}
 use Rattle.merging_export.proofs.instanced_from.Tie as tie

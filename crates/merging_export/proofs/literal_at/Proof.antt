@@ -1,4 +1,5 @@
 -- `merging_export::literal_at` meets its contract.
+-- What the search leaves follows from the tests passed and from what the calls ensure.
 use borrow.Author.Needs.{needs}
 use Rattle.merging_export.proofs.literal_at.Statement.{statement}
 use Rattle.merging_export.proofs.literal_at.Tie as tie

@@ -1,9 +1,10 @@
 -- `merging_export::merging_resolve` meets its contract.
+-- What the search leaves follows from the tests passed and from what the calls ensure.
 use mathlib.Core.Path.{_∙_, ap, ap₂}
+use borrow.Author.Needs.{needs}
 use Rattle.clauses.specs.declared.Instanced.{Instanced}
 use Rattle.merging.specs.Results.{resolved}
 use Rattle.merging_export.specs.Export.{told}
-use borrow.Author.Needs.{needs}
 use Rattle.merging_export.proofs.merging_resolve.Statement.{statement}
 use Rattle.merging_export.proofs.merging_resolve.Tie as tie
 

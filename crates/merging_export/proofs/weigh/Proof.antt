@@ -1,7 +1,8 @@
 -- `merging_export::weigh` meets its contract.
+-- What the search leaves follows from the tests passed and from what the calls ensure.
 use native.Mathlib.Omega.{arith}
-use Rattle.merging_export.specs.Export.{weight}
 use borrow.Author.Needs.{needs}
+use Rattle.merging_export.specs.Export.{weight}
 use Rattle.merging_export.proofs.weigh.Statement.{statement}
 use Rattle.merging_export.proofs.weigh.Tie as tie
 

@@ -1,9 +1,10 @@
 -- `merging_export::weigh_merged` meets its contract.
+-- What the search leaves follows from the tests passed and from what the calls ensure.
 use mathlib.Core.Path.{sym, _∙_, ap}
 use mathlib.Core.Bool.{Bool, cond}
 use Prim.Native.Nat.{ℕ, _+_}
-use Rattle.merging_export.specs.Export.{told, weight}
 use borrow.Author.Needs.{needs}
+use Rattle.merging_export.specs.Export.{told, weight}
 use Rattle.merging_export.proofs.weigh_merged.Statement.{statement}
 use Rattle.merging_export.proofs.weigh_merged.Tie as tie
 

@@ -1,4 +1,5 @@
 -- `merging_export::whole` meets its contract.
+-- What the search leaves follows from the tests passed and from what the calls ensure.
 use lib.ListN.{length-map}
 use Rattle.merging_export.proofs.whole.Statement.{statement}
 use Rattle.merging_export.proofs.whole.Tie as tie
