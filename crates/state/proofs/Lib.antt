@@ -1,2 +1,3 @@
 -- Why a run of the code is a run of the calculus.
 pub mod Runs
+pub mod Table

@@ -1,9 +1,10 @@
 -- The record of a whole state, what admission makes and what a step answers.
 use mathlib.Core.Path.{_≡_}
 use mathlib.Core.List.{List, [], _∷_, map, List·Memᴰ}
-use mathlib.Core.Bool.{true, false}
-use Prim.Native.Nat.{ℕ, _+_}
-use lib.ListN.{length}
+use mathlib.Core.Bool.{_&&_, cond, true, false}
+use Prim.Native.Nat.{ℕ, _+_, _-_}
+use lib.Dec.{eqb, leb}
+use lib.ListN.{length, getD}
 use Rattle.basis.specs.Limits.{mostInput, mostLearned, mostPredicates}
 use Rattle.basis.specs.Numbers.{whole}
 use Rattle.lists.specs.Arrays.{exactly}
@@ -18,7 +19,9 @@ use Rattle.clauses.specs.Records.{packed}
 use Rattle.clauses.specs.declared.Clause.{Clause}
 use Rattle.rules.specs.Answers.{Reached}
 use Rattle.rules.specs.Records.{packedRun, stepOf}
+use Rattle.rules.specs.declared.Run.{Run}
 use Rattle.rules.specs.declared.Step.{Step}
+use Rattle.trail.specs.Entries.{pastEnd}
 use Rattle.state.specs.declared.State.{State}
 use Rattle.state.specs.declared.Answered.{Answered}
 
@@ -52,6 +55,14 @@ Kept r = (s : states.State) × StateOf r s
 -- What `step` promises: the calculus's answer, of every such state.
 abbrev pub Answers : State → Step → Answered → Type 0
 Answers r x a = (s : states.State) → StateOf r s → (b : Answer) × Judged whole s (stepOf x) b × (a ≡ packedAnswer b)
+
+-- The number of the clause that a step looks at: the named one; Resolve looks at the last entry's.
+abbrev pub lookedAt : Run → Step → ℕ
+lookedAt r x = cond (eqb (x .rule) 4) (cond (leb 1 (r .length)) (getD (r .trail) (r .length - 1) pastEnd .clause) 0) (x .clause)
+
+-- Its slot in the table; of a number that no table has, any
+abbrev pub slotOf : ℕ → ℕ
+slotOf c = cond (leb 1 c && leb c mostClauses) (c - 1) 0
 
 -- A run of the code: steps given to `step` one after the other, each at the state that the one before handed back.
 pub data CodeRun : State → List Step → State → Type 0 where

@@ -1,10 +1,10 @@
 // A state with its clauses: only admission makes it and only steps change it.
 ghost use mathlib.Core.Path.{_≡_};
-ghost use Prim.Native.Nat.{_-_, _≤_};
-ghost use Rattle.rules.specs.Records.{stepOf};
-ghost use Rattle.state.specs.States.{Kept, Answers};
+ghost use Prim.Native.Nat.{_-_, _≤_, _<_};
+ghost use lib.ListN.{length};
+ghost use Rattle.basis.specs.Limits.{mostEntries};
+ghost use Rattle.state.specs.States.{Kept, Answers, lookedAt, slotOf};
 use clauses::Clause;
-use clauses::no_clause;
 use rules::Run;
 use rules::Step;
 
@@ -22,4 +22,70 @@ pub struct Answered {
     pub state: State,
     pub number: u8,
     pub place: u8,
+}
+
+// The number of the clause that a step looks at: the named one; Resolve looks at the last entry's.
+fn looked_at(run: Run, x: Step) -> u8
+    requires { ⌜ run .length ≤ mostEntries ⌝ }
+    ensures { λ r. ⌜ r ≡ lookedAt run x ⌝ }
+{
+    if x.rule == 4 {
+        let length = run.length;
+        if length < 1 {
+            return 0;
+        }
+        let k = length as usize - 1;
+        let e = run.trail[k];
+        return e.clause;
+    }
+    x.clause
+}
+
+// The slot of a clause's number; of a number that no table has, any
+fn slot_of(c: u8) -> usize
+    ensures { λ r. ⌜ (r ≡ slotOf c) × (r < 96) ⌝ }
+{
+    if c < 1 {
+        return 0;
+    }
+    if 96 < c {
+        return 0;
+    }
+    c as usize - 1
+}
+
+impl State {
+    // "The tool takes a state and one proposed step and hands a state back, with a number (0 for accepted) and a place." The one clause that
+    // the step looks at is copied out; only Backtrack writes the table.
+    pub fn step(self, x: Step) -> Answered
+        requires { ⌜ Kept self ⌝ }
+        ensures { λ a. ⌜ Answers self x a ⌝ }
+    {
+        let run = self.run;
+        let c = looked_at(run, x);
+        let k = slot_of(c);
+        let clause = self.table[k];
+        let a = run.step(clause, x);
+        let next = a.run;
+        let mut state = self;
+        state.run = next;
+        if a.number == 0 {
+            if x.rule == 7 {
+                let n = run.conflict;
+                let learned = n.clause;
+                let at = run.input as usize + run.learned as usize;
+                state.table[at] = learned;
+                return Answered {
+                    state: state,
+                    number: 0,
+                    place: a.place,
+                };
+            }
+        }
+        Answered {
+            state: state,
+            number: a.number,
+            place: a.place,
+        }
+    }
 }
