@@ -6,7 +6,7 @@ use lib.IntN.{ℤ, pos, negℤ}
 use lib.Signed.{_≤ℤ_}
 use Rattle.basis.specs.declared.Atom.{Atom}
 use Rattle.basis.specs.Limits.{mostC}
-use Rattle.basis.specs.Numbers.{Numbers}
+use Rattle.basis.specs.Numbers.{Numbers, whole}
 
 -- The blank atom stands in every slot past a count.
 abbrev pub noAtom : Atom
@@ -36,3 +36,7 @@ module _ (N : Numbers) where
     -- "The constants b1, b2, .. are ordered: b1 < b2 < .. ."
     pub rising : (i : ℕ) → 1 ≤ i → i < constants → N .Below (value i) (value (suc i))
     pub every : (a : Atom) → List·Memᴰ a atoms → Holds value a
+
+-- The order is strict: no two neighbouring constants have one number. Proved in proofs/Order.antt.
+abbrev pub ConstantsApart : Type 0
+ConstantsApart = (constants : ℕ) (atoms : List Atom) (P : Possible whole constants atoms) (i : ℕ) → 1 ≤ i → i < constants → ¬ (P .value i ≡ P .value (suc i))

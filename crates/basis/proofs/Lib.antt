@@ -1,0 +1,2 @@
+-- What follows from the definitions by themselves.
+pub mod Order
