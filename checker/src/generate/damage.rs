@@ -130,25 +130,25 @@ fn shift(random: &mut Random, bytes: &mut Vec<u8>) {
     }
 }
 
-/// A clause gets a variable that occurs nowhere, loses a bound, or gains a difference.
+/// A clause gets a variable that occurs nowhere, loses an atom, or gains a difference; now and then
+/// both the first and the last.
 fn outside_the_class(random: &mut Random, mut file: RunFile) -> RunFile {
     if file.clauses.is_empty() {
         return file;
     }
     let index = random.below(file.clauses.len());
     let clause = &mut file.clauses[index];
-    let variables = clause.variables as usize;
-    match random.below(3) {
-        0 if variables < limits::VARIABLES => clause.variables += 1,
-        1 if !clause.atoms.is_empty() => {
-            clause.atoms.remove(random.below(clause.atoms.len()));
-        }
-        _ if variables > 0 && clause.atoms.len() < limits::ATOMS => {
-            let p = random.within(1..=variables) as u8;
-            let q = random.within(1..=variables) as u8;
-            clause.atoms.push(Atom { p, q, c: random.whole(-5..=5) });
-        }
-        _ => {}
+    let kind = random.below(4);
+    if kind == 0 && !clause.atoms.is_empty() {
+        clause.atoms.remove(random.below(clause.atoms.len()));
+    }
+    if kind != 1 && clause.variables > 0 && clause.atoms.len() < limits::ATOMS {
+        let p = random.within(1..=clause.variables.into()) as u8;
+        let q = random.within(1..=clause.variables.into()) as u8;
+        clause.atoms.push(Atom { p, q, c: random.whole(-5..=5) });
+    }
+    if kind <= 2 && kind > 0 && (clause.variables as usize) < limits::VARIABLES {
+        clause.variables += 1;
     }
     file
 }

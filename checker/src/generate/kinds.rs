@@ -12,13 +12,15 @@ use crate::step::Step;
 
 /// A file as it should be.
 pub fn run_file(random: &mut Random) -> RunFile {
-    let kinds: [(usize, Kind); 15] = [
+    let kinds: [(usize, Kind); 17] = [
         (140, few_constants),
         (160, many_clauses),
         (60, no_variables),
         (120, implications),
-        (140, close_bounds),
-        (150, wide_clauses),
+        (100, close_bounds),
+        (120, bands),
+        (140, wide_clauses),
+        (60, two_wide_clauses),
         (50, full_trail),
         (50, full_trail_and_conflict),
         (20, eight_literals),
@@ -265,6 +267,52 @@ fn close_bounds(random: &mut Random) -> RunFile {
     played(random, &shape, &temper)
 }
 
+/// Clauses that hold on bands of numbers, as rules on product codes do: what they say together hangs on
+/// the bands that meet.
+fn bands(random: &mut Random) -> RunFile {
+    let arities: Vec<u8> = (0..random.within(1..=4)).map(|_| random.within(1..=2) as u8).collect();
+    let input = (0..random.within(4..=16)).map(|_| clause_on_bands(random, &arities)).collect();
+    let first = State::first(random.within(1..=4), arities, input);
+    let mut temper = temper(random, 150);
+    eager(random, &mut temper);
+    temper.decide = random.pick(&[0, 1, 20]);
+    let moment = Moment::Step(random.below(20));
+    wish_for(random, 40, &[(1, 13), (3, 13)], moment, &mut temper);
+    let steps = play(random, &temper, first.clone());
+    file_of(first, steps)
+}
+
+/// A fact, denial or implication whose variables lie in bands, some at a distance from each other.
+fn clause_on_bands(random: &mut Random, arities: &[u8]) -> Clause {
+    let mut clause = Clause { variables: 0, atoms: Vec::new(), literals: Vec::new() };
+    for _ in 0..random.pick(&[1, 1, 2, 2, 3]) {
+        let index = random.below(arities.len());
+        let mut arguments = Vec::new();
+        for _ in 0..arities[index] {
+            if clause.variables == 0 || random.percent(60) {
+                clause.variables += 1;
+            }
+            arguments.push(random.within(1..=clause.variables.into()) as u8);
+        }
+        clause.literals.push(of(random.percent(50), index as u8 + 1, &arguments));
+    }
+    for variable in 1..=clause.variables {
+        let least = random.whole(0..=30);
+        let most = least + random.whole(0..=14);
+        clause.atoms.push(Atom { p: 0, q: variable, c: -least });
+        clause.atoms.push(Atom { p: variable, q: 0, c: most });
+    }
+    for variable in 2..=clause.variables {
+        if random.percent(40) {
+            let c = random.whole(-12..=12);
+            let (p, q) = random.pick(&[(variable, variable - 1), (variable - 1, variable)]);
+            clause.atoms.push(Atom { p, q, c });
+        }
+    }
+    random.shuffle(&mut clause.atoms);
+    clause
+}
+
 /// Bounds at the ends of c's range.
 fn far_bounds(random: &mut Random) -> RunFile {
     let shape = Shape {
@@ -320,6 +368,49 @@ fn wide_clauses(random: &mut Random) -> RunFile {
     let moment = Moment::Step(random.below(25));
     wish_for(random, 50, &[(4, 18), (4, 18), (1, 12), (3, 12)], moment, &mut temper);
     played(random, &shape, &temper)
+}
+
+/// Two clauses that resolve on one predicate, and together come near the clause limits.
+fn two_wide_clauses(random: &mut Random) -> RunFile {
+    let shape = Shape {
+        constants: 1..=2,
+        predicates: 2..=3,
+        arities: random.pick(&[0..=0, 1..=1, 2..=3]),
+        clauses: 2..=2,
+        literals: 3..=5,
+        atoms: random.pick(&[1..=4, 9..=15]),
+        variables: random.pick(&[3, 6, 8]),
+        reuse: random.pick(&[5, 40]),
+        without_atoms: 0,
+        differences: 10,
+        repeats: random.pick(&[0, 10]),
+        reach: 2_000,
+        tight: 0,
+        leaning: 100,
+        ..small()
+    };
+    let mut first = first_state(random, &shape);
+    let arity = random.below(limits::ARITY + 1) as u8;
+    first.arities.push(arity);
+    let predicate = first.arities.len() as u8;
+    for (index, clause) in first.input.iter_mut().enumerate() {
+        clause.variables = clause.variables.max(1);
+        let variables: Vec<u8> =
+            (0..arity).map(|_| random.within(1..=clause.variables.into()) as u8).collect();
+        let place = random.below(clause.literals.len() + 1);
+        clause.literals.insert(place, of(index == 0, predicate, &variables));
+        if !clause.every_variable_occurs() {
+            clause.atoms.push(loose_bound(random, 1));
+        }
+    }
+    random.shuffle(&mut first.input);
+    let mut temper = temper(random, 60);
+    (temper.propagate, temper.decide, temper.conflict, temper.grow) = (100, 2, 100, 0);
+    (temper.resolve, temper.factorize, temper.skip, temper.backtrack) = (100, 1, 20, 1);
+    (temper.against, temper.newest) = (100, 90);
+    wish_for(random, 70, &[(4, 18)], Moment::Step(0), &mut temper);
+    let steps = play(random, &temper, first.clone());
+    file_of(first, steps)
 }
 
 /// Many constants and a quiet player: the trail fills up.
@@ -436,22 +527,21 @@ fn many_learned(random: &mut Random) -> RunFile {
     played(random, &shape, &temper)
 }
 
-/// A clause of two literals of one predicate, learned again and again up to the limit, whole and
-/// factorized.
+/// A clause with one literal twice, learned again and again up to the limit, whole and factorized.
 fn same_clause_again(random: &mut Random) -> RunFile {
     let arity = random.within(2..=3) as u8;
     let (p, q): (Vec<u8>, Vec<u8>) = ((1..=arity).collect(), (arity + 1..=2 * arity).collect());
-    let denial = Clause {
+    let mut denial = Clause {
         variables: 2 * arity,
         atoms: (0..random.below(4)).map(|_| loose_bound(random, 2 * arity)).collect(),
-        literals: vec![of(false, 1, &p), of(false, 1, &q)],
+        literals: vec![of(false, 1, &p), of(false, 1, &p), of(false, 2, &q)],
     };
-    let first = State::first(random.within(8..=16), vec![arity], vec![denial]);
-    let mut temper = temper(random, 320);
-    temper.against = 100;
-    temper.newest = random.pick(&[50, 90]);
+    random.shuffle(&mut denial.literals);
+    let first = State::first(random.within(8..=16), vec![arity; 2], vec![denial]);
+    let mut temper = temper(random, 360);
+    (temper.against, temper.newest) = (100, random.pick(&[50, 90]));
     (temper.propagate, temper.decide, temper.conflict, temper.grow) = (0, 10, 40, 0);
-    (temper.factorize, temper.skip, temper.backtrack) = (10, 1, 10);
+    (temper.factorize, temper.skip, temper.backtrack) = (1, 1, 10);
     temper.wish = None;
     let moment = Moment::Learned(limits::LEARNED_CLAUSES);
     wish_for(random, 80, &[(7, 15), (7, 16), (7, 18)], moment, &mut temper);
