@@ -1,4 +1,4 @@
--- A clause with its instance as two slices give it, and the weight of a merged clause: one number in which all its parts count.
+-- A clause with its instance as two slices give it, and the weight of a merged clause: a sum for the benchmark, in which signs, bounds c and orders do not count.
 use mathlib.Core.List.{List, [], _∷_, map}
 use mathlib.Core.Bool.{cond}
 use Prim.Native.Nat.{ℕ, _+_, _*_}

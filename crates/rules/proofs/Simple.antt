@@ -22,7 +22,6 @@ use Rattle.calculus.specs.Trails.{Entry, Trail, background, foreground, isDecis
 use Rattle.clauses.proofs.Records.{packed-instanced-says}
 use Rattle.clauses.specs.Records.{instancedOf, packedInstanced}
 use Rattle.clauses.specs.declared.Instanced.{Instanced}
-use Rattle.constraint.specs.Square.{at}
 use Rattle.merging.specs.Results.{factorized, fitted}
 use Rattle.merging.specs.declared.Merged.{Merged}
 use Rattle.rules.proofs.Runs.{conflict-is, conflict-says, constants-is, fine, fine-conflict, input-is, lastOf, learned-is, level-is, no-conflict, packed-as, standing, stands-is, stored, trail-last, trail-none, with-conflict, within}
