@@ -1,0 +1,2 @@
+-- Laws of text and of what writers leave.
+pub mod Text
