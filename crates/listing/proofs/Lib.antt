@@ -1,0 +1,2 @@
+-- Laws of listings.
+pub mod Once

@@ -1,0 +1,1 @@
+// The lines of a listing, written into a lent buffer.
