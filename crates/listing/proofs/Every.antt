@@ -1,9 +1,8 @@
 -- Every file has a listing, and demand 1.
 use mathlib.Core.Path.{_≡_, refl}
-use mathlib.Core.List.{List, [], _∷_, _++_}
+use mathlib.Core.List.{List, [], _∷_}
 use Prim.Native.Nat.{ℕ, _+_}
 use native.Mathlib.Decide.{ℕ-discrete}
-use lib.ListN.{length}
 use Rattle.basis.specs.Numbers.{whole}
 use Rattle.basis.specs.Refusals.{accepted}
 use Rattle.calculus.specs.Rules.{Answer, Judged, answer}
@@ -14,7 +13,6 @@ use Rattle.runfile.specs.File.{File, file}
 use Rattle.runfile.specs.Claims.{opened}
 use Rattle.runfile.proofs.Given.{every-file}
 use Rattle.rules.proofs.Told.{decided}
-use Rattle.listing.specs.Lines.{acceptedLine, refusedLine, lastLine, badLine}
 use Rattle.listing.specs.Listing.{Tried, through, refused, went, Listing, badFile, goodFile}
 use Rattle.listing.specs.Claims.{EveryFileListed, Demand1}
 
@@ -27,15 +25,15 @@ tried [] s n = ([], record { state = s; number = accepted; place = 0 }, through)
 tried (x ∷ xs) s n = let (a, j) = judged s x in go a j (ℕ-discrete (a .number) accepted) (tried xs (a .state) (n + 1))
   where
     go : (a : Answer) → Judged whole s x a → Dec (a .number ≡ accepted) → ((w : List ℕ) × (e : Answer) × Tried (a .state) (n + 1) xs w e) → (w : List ℕ) × (e : Answer) × Tried s n (x ∷ xs) w e
-    go a j (yes z) (w, e, t) = (acceptedLine n x (length (a .state .trail)) (a .state .level) ++ w, e, went a j z t)
-    go a j (no z) r = (refusedLine n x (a .number), a, refused a j z)
+    go a j (yes z) (w, e, t) = (_, e, went a j z t)
+    go a j (no z) r = (_, a, refused a j z)
 
 pub every-file-listed : EveryFileListed
 every-file-listed s = go (file s) refl
   where
     go : (g : Got File) → file s ≡ g → (w : List ℕ) × Listing s w
-    go (got F next) f = let (w, e, t) = tried (F .steps) (opened F) 1 in (w ++ lastLine e, goodFile F next e f t)
-    go (bad number place) f = (badLine number place, badFile number place f)
+    go (got F next) f = let (w, e, t) = tried (F .steps) (opened F) _ in (_, goodFile F next e f t)
+    go (bad number place) f = (_, badFile number place f)
 
 pub demand-1 : Demand1
 demand-1 = (

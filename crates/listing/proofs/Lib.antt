@@ -3,5 +3,5 @@ pub mod Lines
 pub mod Once
 pub mod Every
 pub mod NoModel
-pub mod Lengths
 pub mod Example
+pub mod Lengths
