@@ -15,18 +15,8 @@ use basis::MOST_VARIABLES;
 use clauses::Clause;
 use clauses::Instanced;
 use merging::Merged;
-
-fn byte_at(s: &[u8], k: usize) -> u8
-    ensures { λ r. ⌜ r ≡ getD (now (s .entry)) k 0 ⌝ }
-{
-    if k < s.len() { s[k] } else { 0 }
-}
-
-fn word_at(s: &[i32], k: usize) -> i32
-    ensures { λ r. ⌜ r ≡ getD (now (s .entry)) k (pos 0) ⌝ }
-{
-    if k < s.len() { s[k] } else { 0 }
-}
+use slices::byte_at;
+use slices::word_at;
 
 // ---- a clause with its instance
 
