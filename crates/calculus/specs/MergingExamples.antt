@@ -6,7 +6,7 @@ use Prim.Native.Nat.{ℕ}
 use lib.IntN.{pos, negsuc}
 use Rattle.basis.specs.declared.Atom.{Atom}
 use Rattle.basis.specs.declared.Literal.{Literal}
-use Rattle.calculus.specs.Clauses.{Clause, Instanced}
+use Rattle.calculus.specs.Clauses.{Instanced}
 use Rattle.calculus.specs.Merging.{joins, distinct, resolvent, factored}
 
 -- x ≤ 9, and x ≥ 3

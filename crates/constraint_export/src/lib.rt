@@ -1,8 +1,6 @@
 // The constraint test for programs in C or Rust: it takes slices and answers by a number.
 ghost use mathlib.Core.Path.{_≡_};
 ghost use Prim.Native.Nat.{_<_};
-ghost use lib.ListN.{getD};
-ghost use lib.IntN.{pos};
 ghost use Rattle.basis.specs.Limits.{mostTested};
 ghost use Rattle.constraint_export.specs.Export.{atomFrom, Gathered, code, Tells};
 use basis::Atom;

@@ -2,8 +2,7 @@
 ghost use mathlib.Core.Path.{_≡_};
 ghost use mathlib.Core.List.{map};
 ghost use Prim.Native.Nat.{_≤_, _<_};
-ghost use lib.ListN.{getD, length};
-ghost use lib.IntN.{pos};
+ghost use lib.ListN.{length};
 ghost use Rattle.basis.specs.Limits.{mostAtoms, mostLiterals};
 ghost use Rattle.merging.specs.Results.{resolved};
 ghost use Rattle.merging_export.specs.Export.{atomFrom, literalFrom, atomsFrom, literalsFrom, constantsFrom, instancedFrom, total, atomWeight, literalWeight, weight, told};
