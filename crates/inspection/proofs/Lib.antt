@@ -1,0 +1,2 @@
+-- The examples' texts, and laws of texts written in turn.
+pub mod Example
