@@ -1,2 +1,3 @@
 -- The examples' texts, and laws of texts written in turn.
 pub mod Example
+pub mod Turns

@@ -80,3 +80,7 @@ module _ {n : ℤ} (h : SFits w32 n) where
 pub length-signed : {n : ℤ} → SFits w32 n → length (signed n) ≤ 11
 length-signed {n = pos n} h = omega (arith, length-decimal 9 n (omega (arith, h .sfits)))
 length-signed {n = negsuc n} h = omega (arith, length-decimal 9 (suc n) (omega (arith, h .sfits)))
+
+-- .. also as the machine reads it
+pub length-read : {n : ℤ} → SFits w32 n → length (signed (toZ w32 (ofZ w32 n))) ≤ 11
+length-read h = rw (toZ-ofZ h) (length-signed h)

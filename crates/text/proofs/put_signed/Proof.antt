@@ -1,3 +1,4 @@
+-- By the side of zero that the number is on.
 use mathlib.Core.Path.{ap, refl}
 use native.Mathlib.Omega.{arith}
 use lib.ListN.{length}
