@@ -1,3 +1,4 @@
 -- The examples' texts, and laws of texts written in turn.
 pub mod Example
 pub mod Turns
+pub mod Literals

@@ -1,19 +1,27 @@
 // A state as text for reviewers, written into a lent buffer. Each function writes from a place on and answers the place after what it wrote;
 // the caller sees to the room.
+ghost use mathlib.Core.Path.{_≡_};
 ghost use mathlib.Core.List.{[], _∷_};
 ghost use Prim.Native.Nat.{_+_, _*_, _≤_};
 ghost use lib.ListN.{length, take};
+ghost use Rattle.basis.specs.Limits.{mostVariables, mostAtoms, mostLiterals};
+ghost use Rattle.lists.specs.Arrays.{exactly};
+ghost use Rattle.calculus.specs.Clauses.{arguments};
+ghost use Rattle.clauses.specs.Records.{clauseOf};
 ghost use Rattle.text.specs.Text.{decimal};
-ghost use Rattle.inspection.specs.StateText.{inTurn, apart, numberText, tupleText, atomText};
-ghost use Rattle.inspection.specs.Writing.{mostNumber, mostAtom, mostTuple, Put};
+ghost use Rattle.inspection.specs.StateText.{inTurn, apart, numberText, tupleText, atomText, untilZero, signText, literalText, listedAtom, listedLiteral, clauseText};
+ghost use Rattle.inspection.specs.Writing.{mostNumber, mostAtom, mostTuple, mostLiteral, mostClauseText, Put};
 use basis::Atom;
 use basis::Literal;
 use basis::MOST_VARIABLES;
+use clauses::Clause;
 use text::put_byte;
 use text::put_decimal;
 use text::put_signed;
 use text::put_word;
+use trail::atoms_of;
 use trail::constants_of;
+use trail::literals_of;
 
 // ---- numbers and atoms
 
@@ -76,4 +84,115 @@ fn put_atom(out: &mut [u8], at: usize, a: Atom) -> usize
     let q = put_number(out, minus, a.q);
     let most = put_word(out, q, b"<=");
     put_signed(out, most, a.c)
+}
+
+// ---- literals
+
+// The arguments of a literal, held as an instance's constants are
+fn arguments_of(l: Literal) -> [u8; MOST_VARIABLES]
+    ensures { λ r. ⌜ r ≡ exactly mostVariables 0 (arguments l) ⌝ }
+{
+    let mut r = [0u8; MOST_VARIABLES];
+    r[0] = l.x;
+    r[1] = l.y;
+    r[2] = l.z;
+    r
+}
+
+// How many arguments there are: those before the first 0
+fn arity_of(l: Literal) -> u8
+    ensures { λ r. ⌜ r ≡ length (untilZero (arguments l)) ⌝ }
+{
+    if l.x == 0 {
+        return 0;
+    }
+    if l.y == 0 {
+        return 1;
+    }
+    if l.z == 0 {
+        return 2;
+    }
+    3
+}
+
+fn put_sign(out: &mut [u8], at: usize, positive: bool) -> usize
+    requires { ⌜ at + 1 ≤ length (now out) ⌝ }
+    ensures { λ r. ⌜ Put 1 (now (out .entry)) at (signText positive) (now (out .exit)) r ⌝ }
+{
+    if positive {
+        return at;
+    }
+    put_byte(out, at, b'~')
+}
+
+fn put_literal(out: &mut [u8], at: usize, l: Literal) -> usize
+    requires { ⌜ at + mostLiteral ≤ length (now out) ⌝ }
+    ensures { λ r. ⌜ Put mostLiteral (now (out .entry)) at (literalText l) (now (out .exit)) r ⌝ }
+{
+    let sign = put_sign(out, at, l.positive);
+    let letter = put_byte(out, sign, b'P');
+    let predicate = put_number(out, letter, l.predicate);
+    let numbers = arguments_of(l);
+    let count = arity_of(l);
+    put_tuple(out, predicate, numbers, count)
+}
+
+// ---- clauses
+
+fn put_listed_atom(out: &mut [u8], at: usize, j: usize, a: Atom) -> usize
+    requires { ⌜ at + (1 + mostAtom) ≤ length (now out) ⌝ }
+    ensures { λ r. ⌜ Put (1 + mostAtom) (now (out .entry)) at (listedAtom j a) (now (out .exit)) r ⌝ }
+{
+    let next = put_apart(out, at, j, b' ');
+    put_atom(out, next, a)
+}
+
+fn put_atoms(out: &mut [u8], at: usize, c: Clause) -> usize
+    requires { ⌜ at + mostAtoms * (1 + mostAtom) ≤ length (now out) ⌝ }
+    ensures { λ r. ⌜ Put (mostAtoms * (1 + mostAtom)) (now (out .entry)) at (inTurn 0 listedAtom (clauseOf c .atoms)) (now (out .exit)) r ⌝ }
+{
+    let n = atoms_of(c);
+    let mut next = at;
+    let mut j: usize = 0;
+    while j < n {
+        let a = c.atoms[j];
+        next = put_listed_atom(out, next, j, a);
+        j += 1;
+    }
+    next
+}
+
+fn put_listed_literal(out: &mut [u8], at: usize, j: usize, l: Literal) -> usize
+    requires { ⌜ at + (1 + mostLiteral) ≤ length (now out) ⌝ }
+    ensures { λ r. ⌜ Put (1 + mostLiteral) (now (out .entry)) at (listedLiteral j l) (now (out .exit)) r ⌝ }
+{
+    let next = put_byte(out, at, b' ');
+    put_literal(out, next, l)
+}
+
+fn put_literals(out: &mut [u8], at: usize, c: Clause) -> usize
+    requires { ⌜ at + mostLiterals * (1 + mostLiteral) ≤ length (now out) ⌝ }
+    ensures { λ r. ⌜ Put (mostLiterals * (1 + mostLiteral)) (now (out .entry)) at (inTurn 0 listedLiteral (clauseOf c .literals)) (now (out .exit)) r ⌝ }
+{
+    let n = literals_of(c);
+    let mut next = at;
+    let mut j: usize = 0;
+    while j < n {
+        let l = c.literals[j];
+        next = put_listed_literal(out, next, j, l);
+        j += 1;
+    }
+    next
+}
+
+// Variables, atoms and literals
+fn put_clause(out: &mut [u8], at: usize, c: Clause) -> usize
+    requires { ⌜ at + mostClauseText ≤ length (now out) ⌝ }
+    ensures { λ r. ⌜ Put mostClauseText (now (out .entry)) at (clauseText (clauseOf c)) (now (out .exit)) r ⌝ }
+{
+    let variables = put_number(out, at, c.variables);
+    let open = put_word(out, variables, b" [");
+    let atoms = put_atoms(out, open, c);
+    let close = put_byte(out, atoms, b']');
+    put_literals(out, close, c)
 }
