@@ -2,3 +2,4 @@
 pub mod Example
 pub mod Turns
 pub mod Literals
+pub mod States

@@ -1,9 +1,9 @@
--- A byte has at most three digits.
+-- At most three digits, as the bound says.
 use native.Mathlib.Omega.{arith}
 use borrow.Author.Needs.{needs}
 use Rattle.text.proofs.Text.{length-decimal}
-use Rattle.inspection.proofs.put_number.Statement.{statement}
-use Rattle.inspection.proofs.put_number.Tie as tie
+use Rattle.inspection.proofs.put_small.Statement.{statement}
+use Rattle.inspection.proofs.put_small.Tie as tie
 
 put-decimal-requires : tie.Need-put-decimal-requires
 put-decimal-requires c κs = omega (arith, length-decimal 2 (c .before .before .args .n) (search needs))
@@ -14,5 +14,5 @@ same-length c = search needs
 returns : tie.Need-returns
 returns c = record { wrote = c .before .before .put-decimal .ensures; room = omega (arith, length-decimal 2 (c .before .before .before .before .before .args .n) (search needs)) }
 
-pub put-number-spec : {M : Type 1} → statement M
-put-number-spec = tie.close (tie.spec put-decimal-requires same-length returns)
+pub put-small-spec : {M : Type 1} → statement M
+put-small-spec = tie.close (tie.spec put-decimal-requires same-length returns)
