@@ -1,14 +1,15 @@
 -- The record of a whole state, what admission makes and what a step answers.
 use mathlib.Core.Path.{_≡_}
 use mathlib.Core.List.{List, [], _∷_, map, List·Memᴰ}
-use mathlib.Core.Bool.{_&&_, cond, true, false}
+use mathlib.Core.Bool.{cond, true, false}
 use Prim.Native.Nat.{ℕ, _+_, _-_}
-use lib.Dec.{eqb, leb}
+use lib.Dec.{eqb}
 use lib.ListN.{length, getD}
-use Rattle.basis.specs.Limits.{mostInput, mostLearned, mostPredicates}
+use Rattle.basis.specs.Limits.{mostEntries, mostInput, mostLearned, mostPredicates}
 use Rattle.basis.specs.Numbers.{whole}
 use Rattle.lists.specs.Arrays.{exactly}
 use Rattle.calculus.specs.Admission.{Admitted}
+use Rattle.calculus.specs.Checks.{between}
 use Rattle.calculus.specs.Clauses as calculus
 use Rattle.calculus.specs.Rules.{Answer, Judged}
 use Rattle.calculus.specs.Runs as runs
@@ -56,13 +57,13 @@ Kept r = (s : states.State) × StateOf r s
 abbrev pub Answers : State → Step → Answered → Type 0
 Answers r x a = (s : states.State) → StateOf r s → (b : Answer) × Judged whole s (stepOf x) b × (a ≡ packedAnswer b)
 
--- The number of the clause that a step looks at: the named one; Resolve looks at the last entry's.
+-- The number of the clause that a step looks at: the named one; Resolve looks at the last entry's, and where no entry can be last at none.
 abbrev pub lookedAt : Run → Step → ℕ
-lookedAt r x = cond (eqb (x .rule) 4) (cond (leb 1 (r .length)) (getD (r .trail) (r .length - 1) pastEnd .clause) 0) (x .clause)
+lookedAt r x = cond (eqb (x .rule) 4) (cond (between 1 mostEntries (r .length)) (getD (r .trail) (r .length - 1) pastEnd .clause) 0) (x .clause)
 
 -- Its slot in the table; of a number that no table has, any
 abbrev pub slotOf : ℕ → ℕ
-slotOf c = cond (leb 1 c && leb c mostClauses) (c - 1) 0
+slotOf c = cond (between 1 mostClauses c) (c - 1) 0
 
 -- A run of the code: steps given to `step` one after the other, each at the state that the one before handed back.
 pub data CodeRun : State → List Step → State → Type 0 where

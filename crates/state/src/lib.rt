@@ -1,20 +1,23 @@
 // A state with its clauses: only admission makes it and only steps change it.
 ghost use mathlib.Core.Path.{_≡_};
-ghost use Prim.Native.Nat.{_-_, _≤_, _<_};
-ghost use lib.ListN.{length};
-ghost use Rattle.basis.specs.Limits.{mostEntries};
-ghost use Rattle.state.specs.States.{Kept, Answers, lookedAt, slotOf};
+ghost use Prim.Native.Nat.{_<_};
+ghost use Rattle.state.specs.States.{Kept, Answers, lookedAt, mostClauses, slotOf};
+use basis::MOST_ENTRIES;
+use basis::MOST_PREDICATES;
 use clauses::Clause;
 use rules::Run;
 use rules::Step;
+
+// "At most 48 input and 48 learned clauses": one table for both.
+pub const MOST_CLAUSES: usize = 96;
 
 // "A state is predicates with arities, trail, input clauses, learned clauses, constants, level k, and a conflict or none." The fields are
 // private: what stands here was admitted or learned.
 pub struct State {
     run: Run,
     predicates: u8,
-    arities: [u8; 8],
-    table: [Clause; 96],
+    arities: [u8; MOST_PREDICATES],
+    table: [Clause; MOST_CLAUSES],
 }
 
 // "hands a state back, with a number (0 for accepted) and a place"
@@ -24,14 +27,16 @@ pub struct Answered {
     pub place: u8,
 }
 
-// The number of the clause that a step looks at: the named one; Resolve looks at the last entry's.
-fn looked_at(run: Run, x: Step) -> u8
-    requires { ⌜ run .length ≤ mostEntries ⌝ }
+// The number of the clause that a step looks at: the named one; Resolve looks at the last entry's, and where no entry can be last at none.
+pub fn looked_at(run: Run, x: Step) -> u8
     ensures { λ r. ⌜ r ≡ lookedAt run x ⌝ }
 {
     if x.rule == 4 {
         let length = run.length;
         if length < 1 {
+            return 0;
+        }
+        if MOST_ENTRIES < length as usize {
             return 0;
         }
         let k = length as usize - 1;
@@ -42,13 +47,13 @@ fn looked_at(run: Run, x: Step) -> u8
 }
 
 // The slot of a clause's number; of a number that no table has, any
-fn slot_of(c: u8) -> usize
-    ensures { λ r. ⌜ (r ≡ slotOf c) × (r < 96) ⌝ }
+pub fn slot_of(c: u8) -> usize
+    ensures { λ r. ⌜ (r ≡ slotOf c) × (r < mostClauses) ⌝ }
 {
     if c < 1 {
         return 0;
     }
-    if 96 < c {
+    if MOST_CLAUSES < c as usize {
         return 0;
     }
     c as usize - 1

@@ -1,11 +1,10 @@
-use Rattle.rules.proofs.Runs.{kept-small}
-use Rattle.state.proofs.Table.{run-of, looks-at, room, step-same, step-learns}
+use Rattle.state.proofs.Table.{looks-at, room, run-of, step-learns, step-same, table-is, told-of}
 use borrow.Author.Needs.{needs}
 use Rattle.state.proofs.State.step.Statement.{statement}
 use Rattle.state.proofs.State.step.Tie as tie
 
 looked-at-requires : tie.Need-looked-at-requires
-looked-at-requires c κs = kept-small (c .before .pre .0, run-of (c .before .pre .1)) .few-entries
+looked-at-requires c κs = search needs
 
 slot-of-requires : tie.Need-slot-of-requires
 slot-of-requires c κs = search needs
@@ -17,7 +16,7 @@ element-copy-out-clause : tie.Need-element-copy-out-clause
 element-copy-out-clause c = search needs
 
 step-requires : tie.Need-step-requires
-step-requires c κs = (c .before .before .before .before .pre .0, run-of (c .before .before .before .before .pre .1), looks-at (c .before .before .before .before .pre .1) (c .before .before .before .before .args .x) _ _ (c .before .before .looked-at .ensures) (c .before .slot-of .ensures .0))
+step-requires c κs = (c .before .before .before .before .pre .0, run-of (c .before .before .before .before .pre .1), looks-at (run-of (c .before .before .before .before .pre .1)) (table-is (c .before .before .before .before .pre .1)) (c .before .before .before .before .args .x) _ _ (c .before .before .looked-at .ensures) (c .before .slot-of .ensures .0))
 
 cast-at : tie.Need-cast-at
 cast-at c = search needs
@@ -32,16 +31,16 @@ mul-learned : tie.Need-mul-learned
 mul-learned c = search needs
 
 element-set-from-learned : tie.Need-element-set-from-learned
-element-set-from-learned c = room (c .before .before .before .before .before .before .before .before .before .before .before .before .before .before .pre .1) (c .before .before .before .before .before .before .before .before .before .before .before .before .before .before .args .x) (c .before .before .before .before .before .before .before .before .before .step .result) (c .before .before .before .before .before .before .before .before .before .step .ensures (c .before .before .before .before .before .before .before .before .before .before .before .before .before .before .pre .0) (run-of (c .before .before .before .before .before .before .before .before .before .before .before .before .before .before .pre .1)) (looks-at (c .before .before .before .before .before .before .before .before .before .before .before .before .before .before .pre .1) (c .before .before .before .before .before .before .before .before .before .before .before .before .before .before .args .x) _ _ (c .before .before .before .before .before .before .before .before .before .before .before .before .looked-at .ensures) (c .before .before .before .before .before .before .before .before .before .before .before .slot-of .ensures .0))) (c .before .before .before .before .before .before .if1 .taken) (c .before .before .before .before .if2 .taken)
+element-set-from-learned c = room (c .before .before .before .before .before .before .before .before .before .before .before .before .before .before .args .x) _ (told-of (c .before .before .before .before .before .before .before .before .before .before .before .before .before .before .pre .1) (c .before .before .before .before .before .before .before .before .before .before .before .before .before .before .args .x) _ _ _ (c .before .before .before .before .before .before .before .before .before .before .before .before .looked-at .ensures) (c .before .before .before .before .before .before .before .before .before .before .before .slot-of .ensures .0) (c .before .before .before .before .before .before .before .before .before .step .ensures)) (c .before .before .before .before .before .before .if1 .taken) (c .before .before .before .before .if2 .taken) (run-of (c .before .before .before .before .before .before .before .before .before .before .before .before .before .before .pre .1))
 
 returns : tie.Need-returns
-returns c = λ s S. step-learns S (c .before .before .before .before .before .before .before .before .before .before .before .before .before .before .args .x) (c .before .before .before .before .before .before .before .before .before .step .result) (c .before .before .before .before .before .before .before .before .before .step .ensures s (run-of S) (looks-at S (c .before .before .before .before .before .before .before .before .before .before .before .before .before .before .args .x) _ _ (c .before .before .before .before .before .before .before .before .before .before .before .before .looked-at .ensures) (c .before .before .before .before .before .before .before .before .before .before .before .slot-of .ensures .0))) (c .before .before .before .before .before .before .if1 .taken) (c .before .before .before .before .if2 .taken)
+returns c = λ s S. step-learns S (c .before .before .before .before .before .before .before .before .before .before .before .before .before .before .args .x) _ (told-of S (c .before .before .before .before .before .before .before .before .before .before .before .before .before .before .args .x) _ _ _ (c .before .before .before .before .before .before .before .before .before .before .before .before .looked-at .ensures) (c .before .before .before .before .before .before .before .before .before .before .before .slot-of .ensures .0) (c .before .before .before .before .before .before .before .before .before .step .ensures)) (c .before .before .before .before .before .before .if1 .taken) (c .before .before .before .before .if2 .taken)
 
 returns-2 : tie.Need-returns-2
-returns-2 c = λ s S. step-same S (c .before .before .before .before .before .before .before .before .before .before .args .x) (c .before .before .before .before .before .step .result) (c .before .before .before .before .before .step .ensures s (run-of S) (looks-at S (c .before .before .before .before .before .before .before .before .before .before .args .x) _ _ (c .before .before .before .before .before .before .before .before .looked-at .ensures) (c .before .before .before .before .before .before .before .slot-of .ensures .0))) (λ e. c .if2 .left)
+returns-2 c = λ s S. step-same S (c .before .before .before .before .before .before .before .before .before .before .args .x) _ (told-of S (c .before .before .before .before .before .before .before .before .before .before .args .x) _ _ _ (c .before .before .before .before .before .before .before .before .looked-at .ensures) (c .before .before .before .before .before .before .before .slot-of .ensures .0) (c .before .before .before .before .before .step .ensures)) (λ e. c .if2 .left)
 
 returns-3 : tie.Need-returns-3
-returns-3 c = λ s S. step-same S (c .before .before .before .before .before .before .before .before .args .x) (c .before .before .before .step .result) (c .before .before .before .step .ensures s (run-of S) (looks-at S (c .before .before .before .before .before .before .before .before .args .x) _ _ (c .before .before .before .before .before .before .looked-at .ensures) (c .before .before .before .before .before .slot-of .ensures .0))) (λ e. absurd (c .if1 .left e))
+returns-3 c = λ s S. step-same S (c .before .before .before .before .before .before .before .before .args .x) _ (told-of S (c .before .before .before .before .before .before .before .before .args .x) _ _ _ (c .before .before .before .before .before .before .looked-at .ensures) (c .before .before .before .before .before .slot-of .ensures .0) (c .before .before .before .step .ensures)) (λ e. absurd (c .if1 .left e))
 
 pub step-spec : {M : Type 1} → statement M
 step-spec =
