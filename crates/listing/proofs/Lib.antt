@@ -1,2 +1,3 @@
 -- Laws of listings.
+pub mod Lines
 pub mod Once

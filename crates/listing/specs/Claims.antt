@@ -1,7 +1,7 @@
 -- What holds of listings: every file has exactly one, `refuted` shows that the clauses have no model, and demand 1. Proved in proofs/.
 use mathlib.Core.Path.{_≡_}
 use mathlib.Core.List.{List, _++_, List·Memᴰ}
-use Prim.Native.Nat.{ℕ, _+_, _*_, _≤_}
+use Prim.Native.Nat.{ℕ, _≤_}
 use lib.ListN.{length}
 use Rattle.basis.specs.Numbers.{whole}
 use Rattle.basis.specs.Refusals.{accepted, noRoom}
@@ -10,7 +10,7 @@ use Rattle.calculus.specs.Rules.{Answer, Judged}
 use Rattle.calculus.specs.States.{State, Step}
 use Rattle.calculus.specs.Truth.{Reading, True}
 use Rattle.runfile.specs.Readers.{got}
-use Rattle.runfile.specs.File.{File, file, mostSteps}
+use Rattle.runfile.specs.File.{File, file}
 use Rattle.runfile.specs.Claims.{Outcome}
 use Rattle.rules.specs.Answers.{Reached}
 use Rattle.text.specs.Text.{bytes}
@@ -23,18 +23,6 @@ EveryFileListed = (s : List ℕ) → (w : List ℕ) × Listing s w
 -- .. and only one, whatever is printed after the steps' lines.
 abbrev pub PrintedOnce : Type 0
 PrintedOnce = (after : Answer → List ℕ) (s v w : List ℕ) → Printed after s v → Printed after s w → v ≡ w
-
--- No line has more bytes than `2000 backtrack refused 18`.
-abbrev pub mostLine : ℕ
-mostLine = 26
-
--- `refuted` and `stopped`, with the newline
-abbrev pub mostLast : ℕ
-mostLast = 8
-
--- No listing is longer.
-abbrev pub mostListing : ℕ
-mostListing = mostSteps * mostLine + mostLast
 
 -- From bytes: where the last line is `refuted`, no reading of the predicates over the whole numbers makes the file's clauses true.
 abbrev pub RefutedHasNoModel : Type 1

@@ -23,13 +23,29 @@ ruleName (Backtrack l) = bytes "backtrack"
 ruleName (Grow n) = bytes "grow"
 ruleName (Unknown rule) = bytes ""
 
+-- What both lines of a step begin with: its number and its rule's name
+abbrev pub numbered : (number : ℕ) → Step → List ℕ
+numbered n x = decimal n ++ bytes " " ++ ruleName x
+
 -- "One line per step tried: step number, rule name in small letters, trail length, k"
 unfoldable pub acceptedLine : (number : ℕ) → Step → (length level : ℕ) → List ℕ
-acceptedLine n x t k = decimal n ++ bytes " " ++ ruleName x ++ bytes " " ++ decimal t ++ bytes " " ++ decimal k ++ bytes "\n"
+acceptedLine n x t k = numbered n x ++ bytes " " ++ decimal t ++ bytes " " ++ decimal k ++ bytes "\n"
 
 -- "or number, name, `refused`, refusal"
 unfoldable pub refusedLine : (number : ℕ) → Step → (refusal : ℕ) → List ℕ
-refusedLine n x e = decimal n ++ bytes " " ++ ruleName x ++ bytes " refused " ++ decimal e ++ bytes "\n"
+refusedLine n x e = numbered n x ++ bytes " refused " ++ decimal e ++ bytes "\n"
+
+-- No name is longer than `propagate`, `factorize` and `backtrack`.
+abbrev pub mostName : ℕ
+mostName = 9
+
+-- The number of a step has at most four digits.
+abbrev pub mostNumbered : ℕ
+mostNumbered = 14
+
+-- No line of a step among the 2,000 is longer than `2000 backtrack refused 255` with its newline; 255 is what a byte holds.
+abbrev pub mostLine : ℕ
+mostLine = 27
 
 abbrev pub isEmpty : List Literal → Bool
 isEmpty [] = true
@@ -40,10 +56,22 @@ abbrev pub isRefutation : Option Instanced → Bool
 isRefutation none = false
 isRefutation (some N) = isEmpty (N .clause .literals)
 
--- "Last line: `refuted` if the conflict has no literals, else `stopped` if a step was refused, else `open`", by the answer to the last step tried
+-- "Last line: `refuted` if the conflict has no literals, else `stopped` if a step was refused, else `open`"
+abbrev pub closing : (refuted : Bool) → (refusal : ℕ) → List ℕ
+closing refuted refusal = cond refuted (bytes "refuted\n") (cond (eqb refusal accepted) (bytes "open\n") (bytes "stopped\n"))
+
+-- .. by the answer to the last step tried
 abbrev pub lastLine : Answer → List ℕ
-lastLine e = cond (isRefutation (e .state .conflict)) (bytes "refuted\n") (cond (eqb (e .number) accepted) (bytes "open\n") (bytes "stopped\n"))
+lastLine e = closing (isRefutation (e .state .conflict)) (e .number)
+
+-- `refuted` and `stopped`, with the newline
+abbrev pub mostLast : ℕ
+mostLast = 8
 
 -- "A bad file prints only `bad file`, number, place."
 unfoldable pub badLine : (number place : ℕ) → List ℕ
 badLine n p = bytes "bad file " ++ decimal n ++ bytes " " ++ decimal p ++ bytes "\n"
+
+-- No such line is longer: a refusal is a byte, and a place has at most the 20 digits of a machine number.
+abbrev pub mostBad : ℕ
+mostBad = 34

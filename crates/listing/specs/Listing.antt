@@ -1,16 +1,16 @@
 -- The listing of a file: the lines of the steps tried, one after the other, and the last line.
 use mathlib.Core.Path.{_≡_}
 use mathlib.Core.List.{List, [], _∷_, _++_}
-use Prim.Native.Nat.{ℕ, _+_}
+use Prim.Native.Nat.{ℕ, _+_, _*_}
 use lib.ListN.{length}
 use Rattle.basis.specs.Numbers.{whole}
 use Rattle.basis.specs.Refusals.{accepted}
 use Rattle.calculus.specs.Rules.{Answer, Judged}
 use Rattle.calculus.specs.States.{State, Step}
 use Rattle.runfile.specs.Readers.{got, bad}
-use Rattle.runfile.specs.File.{File, file}
+use Rattle.runfile.specs.File.{File, file, mostSteps}
 use Rattle.runfile.specs.Claims.{opened}
-use Rattle.listing.specs.Lines.{acceptedLine, refusedLine, lastLine, badLine}
+use Rattle.listing.specs.Lines.{acceptedLine, refusedLine, lastLine, badLine, mostLine, mostLast}
 
 -- The steps tried from a state on, the first of them with the number n: their lines, and the answer to the last of them. "It stops at a
 -- refused step."
@@ -29,3 +29,7 @@ pub data Printed (after : Answer → List ℕ) (s : List ℕ) : List ℕ → Typ
 -- The listing: the last line comes after the steps' lines.
 abbrev pub Listing : (file text : List ℕ) → Type 0
 Listing s w = Printed lastLine s w
+
+-- No listing is longer. Proved in proofs/Lengths.antt.
+abbrev pub mostListing : ℕ
+mostListing = mostSteps * mostLine + mostLast
