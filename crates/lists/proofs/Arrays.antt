@@ -67,11 +67,26 @@ module _ {A : Type 0} (d : A) where
   getD-held (suc n) (x ∷ l) zero h = refl
   getD-held (suc n) (x ∷ l) (suc i) h = getD-held n l i (omega arith)
 
+  -- An array with room for another's elements
+  pub exactly-again : (n m : ℕ) (l : List A) → length l ≤ m → exactly n d (exactly m d l) ≡ exactly n d l
+  unfolding exactly
+  exactly-again zero m l h = refl
+  exactly-again (suc n) zero [] h = refl
+  exactly-again (suc n) zero (x ∷ l) h = absurd (omega arith)
+  exactly-again (suc n) (suc m) [] h = ap {B = List A} (λ r. d ∷ r) (exactly-again n m [] (omega arith))
+  exactly-again (suc n) (suc m) (x ∷ l) h = ap {B = List A} (λ r. x ∷ r) (exactly-again n m l (omega arith))
+
   pub map-exactly : {B : Type 0} (f : A → B) (n : ℕ) (l : List A) → map f (exactly n d l) ≡ exactly n (f d) (map f l)
   unfolding exactly
   map-exactly f zero l = refl
   map-exactly {B} f (suc n) [] = ap {B = List B} (λ r. f d ∷ r) (map-exactly f n [])
   map-exactly {B} f (suc n) (x ∷ l) = ap {B = List B} (λ r. f x ∷ r) (map-exactly f n l)
+
+-- Within the length it does not matter what a read past the end would give.
+pub getD-any : {A : Type 0} (l : List A) (i : ℕ) (d e : A) → i < length l → getD l i d ≡ getD l i e
+getD-any [] i d e h = absurd (omega arith)
+getD-any (x ∷ l) zero d e h = refl
+getD-any (x ∷ l) (suc i) d e h = getD-any l i d e (omega arith)
 
 -- ---- an array filled from another, slot by slot
 

@@ -1,3 +1,4 @@
 -- Why a run of the code is a run of the calculus.
 pub mod Runs
 pub mod Table
+pub mod Opening

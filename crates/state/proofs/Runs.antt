@@ -1,5 +1,5 @@
 -- Any run of the code from admission is a run of the calculus.
-use mathlib.Core.Path.{_≡_, refl, sym, ap, _∙_}
+use mathlib.Core.Path.{_≡_, refl, subst, sym, ap, _∙_}
 use mathlib.Core.List.{List, [], _∷_, map}
 use mathlib.Core.Option.{Option, none, some}
 use mathlib.Core.Bool.{true}
@@ -10,12 +10,15 @@ use Rattle.basis.specs.Numbers.{whole}
 use Rattle.calculus.specs.Clauses as calculus
 use Rattle.calculus.specs.Runs as runs
 use Rattle.calculus.specs.States as states
+use Rattle.calculus.specs.Admission.{fresh}
+use Rattle.calculus.proofs.Answers as answers
 use Rattle.calculus.proofs.Demands.{demand-2, demand-3}
 use Rattle.rules.proofs.Runs.{no-conflict}
 use Rattle.rules.specs.Records.{stepOf}
 use Rattle.rules.specs.declared.Step.{Step}
 use Rattle.rules.proofs.Told.{admitted-reached, steps-keep-reached}
-use Rattle.state.specs.States.{CodeReplays, CodeRun, CodeRunsAreRuns, CodeSound, StateOf, over, packedState, then}
+use Rattle.state.specs.States.{AdmittedCodeReplays, AdmittedCodeSound, AnswerUnique, CodeReplays, CodeRun, CodeRunsAreRuns, CodeSound, StateOf, over, packedAnswer, packedState, then}
+use Rattle.state.proofs.Opening.{admit-makes-states}
 use Rattle.state.specs.declared.Answered.{Answered}
 use Rattle.state.specs.declared.State.{State}
 
@@ -29,6 +32,13 @@ code-run s S (then x a h rest) =
 
 pub code-runs-are-runs : CodeRunsAreRuns
 code-runs-are-runs s₀ r xs a h = code-run s₀ (record { reached = admitted-reached s₀ a; is = refl }) h
+
+-- The calculus answers once.
+pub answer-unique : AnswerUnique
+answer-unique r x a b (s, S) f g =
+    let (c, i, e) = f s S in
+    let (d, j, h) = g s S in
+    e ∙ ap packedAnswer (answers.answer-unique whole s (stepOf x) c d i j) ∙ sym h
 
 -- ---- soundness and replay
 
@@ -51,3 +61,15 @@ pub code-replays : CodeReplays
 code-replays s₀ r xs a h free =
     let (s, run, is) = code-runs-are-runs s₀ r xs a h in
     (s, is, demand-3 s₀ s (map stepOf xs) a run (no-conflict (s .conflict) (sym (ap (λ (q : State). q .run .stands) is) ∙ free)))
+
+-- ---- from the front door on
+
+pub admitted-code-sound : AdmittedCodeSound
+admitted-code-sound constants arities cs a r xs e n h =
+    let (k, S) = admit-makes-states constants arities cs a e n in
+    code-sound (fresh constants arities cs) r xs k (subst (λ (q : State). CodeRun q xs r) (S .is) h)
+
+pub admitted-code-replays : AdmittedCodeReplays
+admitted-code-replays constants arities cs a r xs e n h =
+    let (k, S) = admit-makes-states constants arities cs a e n in
+    code-replays (fresh constants arities cs) r xs k (subst (λ (q : State). CodeRun q xs r) (S .is) h)

@@ -2,17 +2,17 @@
 use mathlib.Core.Path.{_≡_, refl, sym, ap, subst, _∙_}
 use mathlib.Core.List.{List, [], _∷_, _++_, map, append-assoc, map-append}
 use mathlib.Core.Bool.{Bool, false, cond}
-use Prim.Native.Nat.{ℕ, zero, suc, _+_, _-_, _≤_, _<_}
+use Prim.Native.Nat.{ℕ, _+_, _-_, _≤_, _<_}
 use native.Mathlib.Decide.{ℕ-discrete, decLt}
 use native.Mathlib.Omega.{arith}
 use lib.Dec.{T, eqb, leb, leb→le}
-use lib.ListN.{length, getD, set, length-append, length-map}
+use lib.ListN.{List·getD-map, length, getD, set, length-append, length-map}
 use borrow.Author.Tests.{eq-eqb, le-leb}
 use Rattle.basis.specs.Limits.{mostEntries, mostPredicates}
 use Rattle.basis.specs.Numbers.{whole}
 use Rattle.basis.specs.Refusals.{accepted}
 use Rattle.lists.specs.Arrays.{exactly}
-use Rattle.lists.proofs.Arrays.{getD-held, set-exactly, exactly-length}
+use Rattle.lists.proofs.Arrays.{exactly-length, getD-any, getD-held, set-exactly}
 use Rattle.lists.proofs.Tests.{and-l, and-r}
 use Rattle.calculus.specs.Checks.{between}
 use Rattle.calculus.specs.Clauses as calculus
@@ -85,16 +85,6 @@ by-rule P x h1 h2 h3 h4 h5 h6 h7 h8 h = elim (ℕ-discrete (x .rule) 1) [
 
 -- ---- reading the table
 
-getD-map : {A B : Type 0} (f : A → B) (l : List A) (i : ℕ) (d : A) → getD (map f l) i (f d) ≡ f (getD l i d)
-getD-map f [] i d = refl
-getD-map f (x ∷ l) zero d = refl
-getD-map f (x ∷ l) (suc i) d = getD-map f l i d
-
-getD-any : {A : Type 0} (l : List A) (i : ℕ) (d e : A) → i < length l → getD l i d ≡ getD l i e
-getD-any [] i d e h = absurd (omega arith)
-getD-any (x ∷ l) zero d e h = refl
-getD-any (x ∷ l) (suc i) d e h = getD-any l i d e (omega arith)
-
 module _ {run : Run} {s : states.State} {table : List Clause} (R : RunOf run s) (is : table ≡ packedTable (clauses s)) where
   few : length (clauses s) ≤ mostClauses
   few = omega (arith, length-append (s .input) (s .learned), fine R .few-input, fine R .few-learned)
@@ -110,7 +100,7 @@ module _ {run : Run} {s : states.State} {table : List Clause} (R : RunOf run s) 
         ap (λ (k : ℕ). getD table k blank) slot ∙ ap (λ (l : List Clause). getD l (c - 1) blank) is
         ∙ getD-any (packedTable (clauses s)) (c - 1) blank (packed calculus.noClause) (omega (arith, exactly-length (packed calculus.noClause) mostClauses (map packed (clauses s))))
         ∙ getD-held (packed calculus.noClause) mostClauses (map packed (clauses s)) (c - 1) (omega (arith, length-map (clauses s) packed, few))
-        ∙ getD-map packed (clauses s) (c - 1) calculus.noClause
+        ∙ List·getD-map packed (clauses s) (c - 1) calculus.noClause
 
     named : (x : Step) → eqb (x .rule) 4 ≡ false → T (clauseExists (clauses s) (x .clause)) → getD table (slotOf (lookedAt run x)) blank ≡ packed (clauseAt (clauses s) (x .clause))
     named x e t = ap (λ (b : Bool). getD table (slotOf (cond b (cond (between 1 mostEntries (run .length)) (lastOf run .clause) 0) (x .clause))) blank) e ∙ table-at (x .clause) t

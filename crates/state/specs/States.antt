@@ -2,13 +2,15 @@
 use mathlib.Core.Path.{_≡_}
 use mathlib.Core.List.{List, [], _∷_, map, List·Memᴰ}
 use mathlib.Core.Bool.{cond, true, false}
-use Prim.Native.Nat.{ℕ, _+_, _-_}
+use Prim.Native.Nat.{ℕ, _+_, _-_, _≤_}
 use lib.Dec.{eqb}
 use lib.ListN.{length, getD}
+use Rattle.admission.specs.Offered as admission
 use Rattle.basis.specs.Limits.{mostEntries, mostInput, mostLearned, mostPredicates}
 use Rattle.basis.specs.Numbers.{whole}
+use Rattle.basis.specs.Refusals.{accepted}
 use Rattle.lists.specs.Arrays.{exactly}
-use Rattle.calculus.specs.Admission.{Admitted}
+use Rattle.calculus.specs.Admission.{Admitted, admissionRefusal, fresh}
 use Rattle.calculus.specs.Checks.{between}
 use Rattle.calculus.specs.Clauses as calculus
 use Rattle.calculus.specs.Rules.{Answer, Judged}
@@ -16,15 +18,16 @@ use Rattle.calculus.specs.Runs as runs
 use Rattle.calculus.specs.States as states
 use Rattle.calculus.specs.States.{clauses}
 use Rattle.calculus.specs.Truth.{Reading, True}
-use Rattle.clauses.specs.Records.{packed}
+use Rattle.clauses.specs.Records.{packed, packedInstanced}
 use Rattle.clauses.specs.declared.Clause.{Clause}
 use Rattle.rules.specs.Answers.{Reached}
 use Rattle.rules.specs.Records.{packedRun, stepOf}
 use Rattle.rules.specs.declared.Run.{Run}
 use Rattle.rules.specs.declared.Step.{Step}
-use Rattle.trail.specs.Entries.{pastEnd}
+use Rattle.trail.specs.Entries.{packedTrail, pastEnd}
 use Rattle.state.specs.declared.State.{State}
 use Rattle.state.specs.declared.Answered.{Answered}
+use Rattle.state.specs.declared.Opened.{Opened}
 
 -- "Learned clauses are numbered after the input ones": one table for both, blank past them.
 abbrev pub mostClauses : ℕ
@@ -57,6 +60,47 @@ Kept r = (s : states.State) × StateOf r s
 abbrev pub Answers : State → Step → Answered → Type 0
 Answers r x a = (s : states.State) → StateOf r s → (b : Answer) × Judged whole s (stepOf x) b × (a ≡ packedAnswer b)
 
+-- ---- admission
+
+-- "Only admission makes a state": of what it accepts, the state in which nothing has been done. A refused file yields no state: beside the
+-- refusal stands the state of no clauses.
+abbrev pub madeOf : ℕ → ℕ → List ℕ → List calculus.Clause → states.State
+madeOf number constants arities cs = cond (eqb number accepted) (fresh constants arities cs) (fresh 0 [] [])
+
+-- What `admit` answers of the constants, arities and clauses that were offered
+unfoldable pub opened : ℕ → List ℕ → List calculus.Clause → Opened
+opened constants arities cs =
+    let r = admissionRefusal constants arities cs in
+    record { state = packedState (madeOf (r .number) constants arities cs); number = r .number; place = r .place }
+
+-- A run of no steps
+abbrev pub newRun : ℕ → ℕ → Run
+newRun constants input = record {
+  constants = constants;
+  input = input;
+  learned = 0;
+  level = 0;
+  length = 0;
+  stands = false;
+  trail = packedTrail [];
+  conflict = packedInstanced calculus.noInstanced;
+}
+
+-- r is the state in which nothing has been done, of the clauses that the table holds.
+abbrev pub IsNew : ℕ → List ℕ → ℕ → List Clause → State → Type 0
+IsNew constants arities count table r = (cs : List calculus.Clause) → table ≡ admission.packedTable cs → count ≡ length cs → count ≤ mostInput → r ≡ packedState (fresh constants arities cs)
+
+-- What is accepted is admitted, and the state handed back is its record: what `step` takes for granted. Proved in proofs/Opening.antt.
+abbrev pub AdmitMakesStates : Type 0
+AdmitMakesStates = (constants : ℕ) (arities : List ℕ) (cs : List calculus.Clause) (a : Opened) → a ≡ opened constants arities cs → a .number ≡ accepted
+    → Admitted (fresh constants arities cs) × StateOf (a .state) (fresh constants arities cs)
+
+-- .. and so may be taken what stands beside a refusal: the state of no clauses is admitted too.
+abbrev pub AdmitKeeps : Type 0
+AdmitKeeps = (constants : ℕ) (arities : List ℕ) (cs : List calculus.Clause) (a : Opened) → a ≡ opened constants arities cs → Kept (a .state)
+
+-- ---- steps
+
 -- The number of the clause that a step looks at: the named one; Resolve looks at the last entry's, and where no entry can be last at none.
 abbrev pub lookedAt : Run → Step → ℕ
 lookedAt r x = cond (eqb (x .rule) 4) (cond (between 1 mostEntries (r .length)) (getD (r .trail) (r .length - 1) pastEnd .clause) 0) (x .clause)
@@ -64,6 +108,12 @@ lookedAt r x = cond (eqb (x .rule) 4) (cond (between 1 mostEntries (r .length)) 
 -- Its slot in the table; of a number that no table has, any
 abbrev pub slotOf : ℕ → ℕ
 slotOf c = cond (between 1 mostClauses c) (c - 1) 0
+
+-- The answer is unique. Proved in proofs/Runs.antt.
+abbrev pub AnswerUnique : Type 0
+AnswerUnique = (r : State) (x : Step) (a b : Answered) → Kept r → Answers r x a → Answers r x b → a ≡ b
+
+-- ---- runs
 
 -- A run of the code: steps given to `step` one after the other, each at the state that the one before handed back.
 pub data CodeRun : State → List Step → State → Type 0 where
@@ -85,4 +135,16 @@ CodeSound = (s₀ : states.State) (r : State) (xs : List Step) → Admitted s₀
 -- are each accepted and give the same state.
 abbrev pub CodeReplays : Type 0
 CodeReplays = (s₀ : states.State) (r : State) (xs : List Step) → Admitted s₀ → CodeRun (packedState s₀) xs r → r .run .stands ≡ false
+    → (s : states.State) × (r ≡ packedState s) × runs.AcceptedRun whole (runs.restarted s) (runs.replayed (s .trail)) s
+
+-- ---- from the front door on: what was offered, accepted by `admit` and then changed by `step` alone
+
+abbrev pub AdmittedCodeSound : Type 1
+AdmittedCodeSound = (constants : ℕ) (arities : List ℕ) (cs : List calculus.Clause) (a : Opened) (r : State) (xs : List Step)
+    → a ≡ opened constants arities cs → a .number ≡ accepted → CodeRun (a .state) xs r → r .run .stands ≡ true → r .run .conflict .clause .literalcount ≡ 0
+    → (I : Reading whole arities) → ((C : calculus.Clause) → List·Memᴰ C cs → True whole arities I C) → ⊥
+
+abbrev pub AdmittedCodeReplays : Type 0
+AdmittedCodeReplays = (constants : ℕ) (arities : List ℕ) (cs : List calculus.Clause) (a : Opened) (r : State) (xs : List Step)
+    → a ≡ opened constants arities cs → a .number ≡ accepted → CodeRun (a .state) xs r → r .run .stands ≡ false
     → (s : states.State) × (r ≡ packedState s) × runs.AcceptedRun whole (runs.restarted s) (runs.replayed (s .trail)) s

@@ -1,12 +1,21 @@
 // A state with its clauses: only admission makes it and only steps change it.
 ghost use mathlib.Core.Path.{_≡_};
-ghost use Prim.Native.Nat.{_<_};
-ghost use Rattle.state.specs.States.{Kept, Answers, lookedAt, mostClauses, slotOf};
+ghost use Prim.Native.Nat.{_≤_, _<_};
+ghost use Rattle.basis.specs.Limits.{mostPredicates};
+ghost use Rattle.lists.specs.Arrays.{exactly};
+ghost use Rattle.calculus.specs.Clauses as calculus;
+ghost use Rattle.clauses.specs.Records.{packed};
+ghost use Rattle.admission.specs.Offered.{offeredArities, offeredTable};
+ghost use Rattle.state.specs.States.{Answers, IsNew, Kept, lookedAt, mostClauses, newRun, opened, slotOf};
 use basis::MOST_ENTRIES;
+use basis::MOST_INPUT;
 use basis::MOST_PREDICATES;
 use clauses::Clause;
+use clauses::no_clause;
+use clauses::no_instanced;
 use rules::Run;
 use rules::Step;
+use trail::empty_trail;
 
 // "At most 48 input and 48 learned clauses": one table for both.
 pub const MOST_CLAUSES: usize = 96;
@@ -26,6 +35,117 @@ pub struct Answered {
     pub number: u8,
     pub place: u8,
 }
+
+// What admission hands back: a state; or the refusal's number and place, and beside them the state of no clauses
+pub struct Opened {
+    pub state: State,
+    pub number: u8,
+    pub place: u8,
+}
+
+// ---- admission
+
+// A run of no steps
+fn new_run(constants: u8, input: u8) -> Run
+    ensures { λ r. ⌜ r ≡ newRun constants input ⌝ }
+{
+    let trail = empty_trail();
+    let conflict = no_instanced();
+    Run {
+        constants: constants,
+        input: input,
+        learned: 0,
+        level: 0,
+        length: 0,
+        stands: false,
+        trail: trail,
+        conflict: conflict,
+    }
+}
+
+// The first arities, blank from there on
+fn first_arities(predicates: u8, arities: [u8; MOST_PREDICATES]) -> [u8; MOST_PREDICATES]
+    requires { ⌜ predicates ≤ mostPredicates ⌝ }
+    ensures { λ r. ⌜ r ≡ exactly mostPredicates 0 (offeredArities predicates arities) ⌝ }
+{
+    let n = predicates as usize;
+    let mut out = [0u8; MOST_PREDICATES];
+    let mut j: usize = 0;
+    while j < n {
+        out[j] = arities[j];
+        j += 1;
+    }
+    out
+}
+
+// The input clauses, and room for the learned ones
+fn with_room(clauses: [Clause; MOST_INPUT]) -> [Clause; MOST_CLAUSES]
+    ensures { λ r. ⌜ r ≡ exactly mostClauses (packed calculus.noClause) clauses ⌝ }
+{
+    let blank = no_clause();
+    let mut out = [blank; MOST_CLAUSES];
+    let mut j: usize = 0;
+    while j < MOST_INPUT {
+        let c = clauses[j];
+        out[j] = c;
+        j += 1;
+    }
+    out
+}
+
+// The state in which nothing has been done, of clauses that were read
+fn new_state(
+    constants: u8,
+    predicates: u8,
+    arities: [u8; MOST_PREDICATES],
+    count: u8,
+    clauses: [Clause; MOST_INPUT],
+) -> State
+    requires { ⌜ predicates ≤ mostPredicates ⌝ }
+    ensures { λ r. ⌜ IsNew constants (offeredArities predicates arities) count clauses r ⌝ }
+{
+    let run = new_run(constants, count);
+    let first = first_arities(predicates, arities);
+    let table = with_room(clauses);
+    State {
+        run: run,
+        predicates: predicates,
+        arities: first,
+        table: table,
+    }
+}
+
+// "Only admission makes a state": clause records offered without a file "meet 3 to 7 .. before anything else; the place is then the number of
+// the first bad clause, or 0 .. for counts and arities, which are judged first." A refused file yields no state.
+pub fn admit(
+    constants: u8,
+    predicates: u8,
+    arities: [u8; MOST_PREDICATES],
+    count: u8,
+    clauses: [Clause; MOST_INPUT],
+) -> Opened
+    ensures { λ r. ⌜ r ≡ opened constants (offeredArities predicates arities) (offeredTable (offeredArities predicates arities) count clauses) ⌝ }
+{
+    let read = admission::admit(constants, predicates, arities, count, clauses);
+    let table = read.clauses;
+    if read.number != 0 {
+        let none = [0u8; MOST_PREDICATES];
+        let blank = new_state(0, 0, none, 0, table);
+        return Opened {
+            state: blank,
+            number: read.number,
+            place: read.place,
+        };
+    }
+    let state = new_state(constants, predicates, arities, count, table);
+    Opened {
+        state: state,
+        number: read.number,
+        place: read.place,
+    }
+}
+
+// ---- steps
 
 // The number of the clause that a step looks at: the named one; Resolve looks at the last entry's, and where no entry can be last at none.
 pub fn looked_at(run: Run, x: Step) -> u8
@@ -92,5 +212,31 @@ impl State {
             number: a.number,
             place: a.place,
         }
+    }
+
+    // ---- what a state says to whoever looks at it
+
+    pub fn run(self) -> Run
+        ensures { λ r. ⌜ r ≡ self .run ⌝ }
+    {
+        self.run
+    }
+
+    pub fn table(self) -> [Clause; MOST_CLAUSES]
+        ensures { λ r. ⌜ r ≡ self .table ⌝ }
+    {
+        self.table
+    }
+
+    pub fn predicates(self) -> u8
+        ensures { λ r. ⌜ r ≡ self .predicates ⌝ }
+    {
+        self.predicates
+    }
+
+    pub fn arities(self) -> [u8; MOST_PREDICATES]
+        ensures { λ r. ⌜ r ≡ self .arities ⌝ }
+    {
+        self.arities
     }
 }

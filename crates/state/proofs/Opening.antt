@@ -1,0 +1,122 @@
+-- What admission hands back is the record of an admitted state.
+use mathlib.Core.Path.{_∙_, _≡_, ap, refl, sym}
+use mathlib.Core.List.{List, List·Memᴰ·not-nil, [], _++_, append-nil, map}
+use mathlib.Core.Bool.{Bool, cond, false, true}
+use Prim.Native.Nat.{ℕ}
+use native.Mathlib.Decide.{ℕ-discrete}
+use native.Mathlib.Omega.{arith}
+use lib.Dec.{eqb}
+use lib.ListN.{length, length-map}
+use borrow.Author.Tests.{eq-eqb, ne-eqb}
+use Rattle.admission.specs.Offered as admission
+use Rattle.admission.specs.declared.TableAnswer.{TableAnswer}
+use Rattle.basis.specs.Limits.{mostInput, mostPredicates}
+use Rattle.basis.specs.Refusals.{accepted}
+use Rattle.lists.specs.Arrays.{exactly}
+use Rattle.lists.proofs.Arrays.{exactly-again, exactly-length}
+use Rattle.calculus.specs.Admission.{Admitted, admissionRefusal, fresh}
+use Rattle.calculus.specs.Clauses as calculus
+use Rattle.calculus.proofs.Admitting.{admitted-exactly}
+use Rattle.clauses.specs.Records.{packed}
+use Rattle.clauses.specs.declared.Clause.{Clause}
+use Rattle.rules.proofs.Told.{admitted-reached}
+use Rattle.state.specs.States.{AdmitKeeps, AdmitMakesStates, IsNew, madeOf, mostClauses, newRun, opened, packedState, packedTable}
+use Rattle.state.specs.declared.Opened.{Opened}
+use Rattle.state.specs.declared.State.{State}
+
+-- The record of a state in which nothing has been done, part by part
+pub new-is : (constants count : ℕ) (arities : List ℕ) (table : List Clause)
+    → IsNew constants arities count table (record { run = newRun constants count; predicates = length arities; arities = exactly mostPredicates 0 arities; table = exactly mostClauses (packed calculus.noClause) table })
+unfolding packedTable
+new-is constants count arities table cs e n h =
+    λ i. record { run = newRun constants (n i); predicates = length arities; arities = exactly mostPredicates 0 arities; table = held i }
+  where
+    blank : Clause
+    blank = packed calculus.noClause
+
+    held : exactly mostClauses (packed calculus.noClause) table ≡ packedTable (cs ++ [])
+    held = ap (exactly mostClauses blank) e ∙ exactly-again blank mostClauses mostInput (map packed cs) (omega (arith, length-map cs packed)) ∙ ap (λ (l : List calculus.Clause). exactly mostClauses blank (map packed l)) (sym (append-nil cs))
+
+-- As many clauses are read as are counted.
+pub offered-count : (arities : List ℕ) (count : ℕ) (l : List Clause) → count ≡ length (admission.offeredTable arities count l)
+offered-count arities count l = sym (length-map (exactly count (packed calculus.noClause) l) (admission.offered arities) ∙ exactly-length (packed calculus.noClause) count l)
+
+-- ---- the answer
+
+module _ (constants : ℕ) (arities : List ℕ) (cs : List calculus.Clause) {t : TableAnswer} (e : t ≡ admission.tableAnswer constants arities cs) where
+  number-is : t .number ≡ admissionRefusal constants arities cs .number
+  unfolding admission.answered
+  number-is = ap (λ (q : TableAnswer). q .number) e
+
+  place-is : t .place ≡ admissionRefusal constants arities cs .place
+  unfolding admission.answered
+  place-is = ap (λ (q : TableAnswer). q .place) e
+
+  pub admitted : t .number ≡ accepted → Admitted (fresh constants arities cs)
+  admitted h = admitted-exactly constants arities cs .0 (sym number-is ∙ h)
+
+  pub opens-accepted : t .number ≡ accepted → (count : ℕ) → count ≡ length cs → (r : State) → IsNew constants arities count (t .clauses) r
+      → _≡_ {A = Opened} (record { state = r; number = t .number; place = t .place }) (opened constants arities cs)
+  unfolding opened admission.answered
+  opens-accepted h count n r new = λ i. record { state = (made ∙ sym chosen) i; number = number-is i; place = place-is i }
+    where
+      test : eqb (admissionRefusal constants arities cs .number) accepted ≡ true
+      test = eq-eqb (admissionRefusal constants arities cs .number) accepted (sym number-is ∙ h)
+
+      made : r ≡ packedState (fresh constants arities cs)
+      made = new cs (ap (λ (q : TableAnswer). q .clauses) e ∙ ap (λ (b : Bool). cond b (admission.packedTable cs) (admission.packedTable [])) test) n (omega (arith, admitted h .few-clauses))
+
+      chosen : packedState (madeOf (admissionRefusal constants arities cs .number) constants arities cs) ≡ packedState (fresh constants arities cs)
+      chosen = ap (λ (b : Bool). packedState (cond b (fresh constants arities cs) (fresh 0 [] []))) test
+
+  pub opens-refused : ¬ (t .number ≡ accepted) → (r : State) → IsNew 0 [] 0 (t .clauses) r
+      → _≡_ {A = Opened} (record { state = r; number = t .number; place = t .place }) (opened constants arities cs)
+  unfolding opened admission.answered
+  opens-refused h r new = λ i. record { state = (made ∙ sym chosen) i; number = number-is i; place = place-is i }
+    where
+      test : eqb (admissionRefusal constants arities cs .number) accepted ≡ false
+      test = ne-eqb (admissionRefusal constants arities cs .number) accepted (λ k. h (number-is ∙ k))
+
+      made : r ≡ packedState (fresh 0 [] [])
+      made = new [] (ap (λ (q : TableAnswer). q .clauses) e ∙ ap (λ (b : Bool). cond b (admission.packedTable cs) (admission.packedTable [])) test) refl (omega arith)
+
+      chosen : packedState (madeOf (admissionRefusal constants arities cs .number) constants arities cs) ≡ packedState (fresh 0 [] [])
+      chosen = ap (λ (b : Bool). packedState (cond b (fresh constants arities cs) (fresh 0 [] []))) test
+
+-- ---- what `step` takes for granted
+
+-- A state of no clauses, no predicates and no constants
+none-admitted : Admitted (fresh 0 [] [])
+none-admitted = record {
+  few-constants = omega arith;
+  few-predicates = omega arith;
+  small-arities = λ n m. absurd (List·Memᴰ·not-nil m);
+  few-clauses = omega arith;
+  in-class = λ C m. absurd (List·Memᴰ·not-nil m);
+  limited = λ C m. absurd (List·Memᴰ·not-nil m);
+  new = refl;
+}
+
+module _ (constants : ℕ) (arities : List ℕ) (cs : List calculus.Clause) (a : Opened) (e : a ≡ opened constants arities cs) where
+  refusal-is : a .number ≡ admissionRefusal constants arities cs .number
+  unfolding opened
+  refusal-is = ap (λ (q : Opened). q .number) e
+
+  state-is : a .state ≡ packedState (madeOf (admissionRefusal constants arities cs .number) constants arities cs)
+  unfolding opened
+  state-is = ap (λ (q : Opened). q .state) e
+
+pub admit-makes-states : AdmitMakesStates
+admit-makes-states constants arities cs a e h =
+    let n = sym (refusal-is constants arities cs a e) ∙ h in
+    let k = admitted-exactly constants arities cs .0 n in
+    let test = eq-eqb (admissionRefusal constants arities cs .number) accepted n in
+    (k, record { reached = admitted-reached (fresh constants arities cs) k; is = state-is constants arities cs a e ∙ ap (λ (b : Bool). packedState (cond b (fresh constants arities cs) (fresh 0 [] []))) test })
+
+pub admit-keeps : AdmitKeeps
+admit-keeps constants arities cs a e = elim (ℕ-discrete (a .number) accepted) [
+  | yes h ↦ (fresh constants arities cs, admit-makes-states constants arities cs a e h .1)
+  | no h ↦
+      let test = ne-eqb (admissionRefusal constants arities cs .number) accepted (λ k. h (refusal-is constants arities cs a e ∙ k)) in
+      (fresh 0 [] [], record { reached = admitted-reached (fresh 0 [] []) none-admitted; is = state-is constants arities cs a e ∙ ap (λ (b : Bool). packedState (cond b (fresh constants arities cs) (fresh 0 [] []))) test })
+]
