@@ -1,7 +1,7 @@
 -- What holds of listings: every file has exactly one, `refuted` shows that the clauses have no model, and demand 1. Proved in proofs/.
 use mathlib.Core.Path.{_≡_}
 use mathlib.Core.List.{List, _++_, List·Memᴰ}
-use Prim.Native.Nat.{ℕ, _≤_}
+use Prim.Native.Nat.{ℕ, _<_, _≤_}
 use lib.ListN.{length}
 use Rattle.basis.specs.Numbers.{whole}
 use Rattle.basis.specs.Refusals.{accepted, noRoom}
@@ -14,7 +14,7 @@ use Rattle.runfile.specs.File.{File, file}
 use Rattle.runfile.specs.Claims.{Outcome}
 use Rattle.rules.specs.Answers.{Reached}
 use Rattle.text.specs.Text.{bytes}
-use Rattle.listing.specs.Listing.{Printed, Listing}
+use Rattle.listing.specs.Listing.{Printed, Listing, mostListing}
 
 -- Every file has a listing ..
 abbrev pub EveryFileListed : Type 0
@@ -23,6 +23,10 @@ EveryFileListed = (s : List ℕ) → (w : List ℕ) × Listing s w
 -- .. and only one, whatever is printed after the steps' lines.
 abbrev pub PrintedOnce : Type 0
 PrintedOnce = (after : Answer → List ℕ) (s v w : List ℕ) → Printed after s v → Printed after s w → v ≡ w
+
+-- The listing of a file that a machine can hold has at most `mostListing` bytes.
+abbrev pub ListingFits : Type 0
+ListingFits = (s w : List ℕ) → length s < 18446744073709551616 → Listing s w → length w ≤ mostListing
 
 -- From bytes: where the last line is `refuted`, no reading of the predicates over the whole numbers makes the file's clauses true.
 abbrev pub RefutedHasNoModel : Type 1

@@ -30,6 +30,6 @@ pub data Printed (after : Answer → List ℕ) (s : List ℕ) : List ℕ → Typ
 abbrev pub Listing : (file text : List ℕ) → Type 0
 Listing s w = Printed lastLine s w
 
--- No listing is longer. Proved in proofs/Lengths.antt.
+-- No listing is longer than its steps' lines, each as long as a line can be, and the last line.
 abbrev pub mostListing : ℕ
 mostListing = mostSteps * mostLine + mostLast

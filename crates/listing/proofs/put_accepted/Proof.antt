@@ -11,13 +11,13 @@ put-numbered-requires : tie.Need-put-numbered-requires
 put-numbered-requires c κs = search needs
 
 put-byte-requires : tie.Need-put-byte-requires
-put-byte-requires c κs = omega (arith, length-numbered (c .before .before .before .before .before .before .args .n) (stepOf (c .before .before .before .before .before .before .args .x)) (c .before .before .before .before .before .before .pre .0))
+put-byte-requires c κs = omega (arith, length-numbered (c .before .before .before .before .before .before .args .n) (stepOf (c .before .before .before .before .before .before .args .x)) (c .before .before .before .before .before .before .pre .0), digits-byte (c .before .before .before .before .before .before .args .trail) (omega arith), digits-byte (c .before .before .before .before .before .before .args .level) (omega arith))
 
 put-decimal-requires : tie.Need-put-decimal-requires
-put-decimal-requires c κs = omega (arith, length-numbered (c .before .before .before .before .before .before .before .before .before .before .args .n) (stepOf (c .before .before .before .before .before .before .before .before .before .before .args .x)) (c .before .before .before .before .before .before .before .before .before .before .pre .0), digits-byte (c .before .before .before .before .before .before .before .before .before .before .args .trail) (omega arith))
+put-decimal-requires c κs = omega (arith, length-numbered (c .before .before .before .before .before .before .before .before .before .before .args .n) (stepOf (c .before .before .before .before .before .before .before .before .before .before .args .x)) (c .before .before .before .before .before .before .before .before .before .before .pre .0), digits-byte (c .before .before .before .before .before .before .before .before .before .before .args .trail) (omega arith), digits-byte (c .before .before .before .before .before .before .before .before .before .before .args .level) (omega arith))
 
 put-byte-requires-2 : tie.Need-put-byte-requires-2
-put-byte-requires-2 c κs = omega (arith, length-numbered (c .before .before .before .before .before .before .before .before .before .before .before .before .before .before .args .n) (stepOf (c .before .before .before .before .before .before .before .before .before .before .before .before .before .before .args .x)) (c .before .before .before .before .before .before .before .before .before .before .before .before .before .before .pre .0), digits-byte (c .before .before .before .before .before .before .before .before .before .before .before .before .before .before .args .trail) (omega arith))
+put-byte-requires-2 c κs = omega (arith, length-numbered (c .before .before .before .before .before .before .before .before .before .before .before .before .before .before .args .n) (stepOf (c .before .before .before .before .before .before .before .before .before .before .before .before .before .before .args .x)) (c .before .before .before .before .before .before .before .before .before .before .before .before .before .before .pre .0), digits-byte (c .before .before .before .before .before .before .before .before .before .before .before .before .before .before .args .trail) (omega arith), digits-byte (c .before .before .before .before .before .before .before .before .before .before .before .before .before .before .args .level) (omega arith))
 
 put-decimal-requires-2 : tie.Need-put-decimal-requires-2
 put-decimal-requires-2 c κs = omega (arith, length-numbered (c .before .before .before .before .before .before .before .before .before .before .before .before .before .before .before .before .before .before .args .n) (stepOf (c .before .before .before .before .before .before .before .before .before .before .before .before .before .before .before .before .before .before .args .x)) (c .before .before .before .before .before .before .before .before .before .before .before .before .before .before .before .before .before .before .pre .0), digits-byte (c .before .before .before .before .before .before .before .before .before .before .before .before .before .before .before .before .before .before .args .trail) (omega arith), digits-byte (c .before .before .before .before .before .before .before .before .before .before .before .before .before .before .before .before .before .before .args .level) (omega arith))

@@ -13,10 +13,10 @@ put-word-requires : tie.Need-put-word-requires
 put-word-requires c κs = search needs
 
 put-decimal-requires : tie.Need-put-decimal-requires
-put-decimal-requires c κs = omega (arith, digits-byte (c .before .before .before .before .before .before .before .args .number) (omega arith))
+put-decimal-requires c κs = omega (arith, digits-byte (c .before .before .before .before .before .before .before .args .number) (omega arith), digits-machine (c .before .before .before .before .before .before .before .args .place) (omega arith))
 
 put-byte-requires : tie.Need-put-byte-requires
-put-byte-requires c κs = omega (arith, digits-byte (c .before .before .before .before .before .before .before .before .before .before .before .args .number) (omega arith))
+put-byte-requires c κs = omega (arith, digits-byte (c .before .before .before .before .before .before .before .before .before .before .before .args .number) (omega arith), digits-machine (c .before .before .before .before .before .before .before .before .before .before .before .args .place) (omega arith))
 
 put-decimal-requires-2 : tie.Need-put-decimal-requires-2
 put-decimal-requires-2 c κs = omega (arith, digits-byte (c .before .before .before .before .before .before .before .before .before .before .before .before .before .before .before .args .number) (omega arith), digits-machine (c .before .before .before .before .before .before .before .before .before .before .before .before .before .before .before .args .place) (omega arith))

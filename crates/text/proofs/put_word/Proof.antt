@@ -1,10 +1,9 @@
 use borrow.Author.Needs.{needs}
-use mathlib.Core.Path.{_≡_, refl, sym, ap, _∙_}
+use mathlib.Core.Path.{_≡_, refl, ap, _∙_}
 use mathlib.Core.List.{List}
 use Prim.Native.Nat.{ℕ, _≤_, _-_, _+_}
-use native.Mathlib.Omega.{arith}
 use lib.ListN.{length, take, length-set, set, getD}
-use lib.Seq.{sets, length-sets, take-all}
+use lib.Seq.{sets, take-all}
 use denote.Ref.{now}
 use Rattle.text.proofs.Text.{sets-more}
 use Rattle.text.proofs.put_word.Statement.{statement}
