@@ -1,12 +1,11 @@
--- `merging_export::word_at` meets its contract.
--- What the search leaves follows from the tests passed and from what the calls ensure.
+-- What is read past the end is 0.
 use mathlib.Core.Path.{sym}
 use native.Mathlib.Omega.{arith}
-use lib.IntN.{pos}
 use lib.ListN.{List·getD-eq-default}
+use lib.IntN.{pos}
 use borrow.Author.Needs.{needs}
-use Rattle.merging_export.proofs.word_at.Statement.{statement}
-use Rattle.merging_export.proofs.word_at.Tie as tie
+use Rattle.slices.proofs.word_at.Statement.{statement}
+use Rattle.slices.proofs.word_at.Tie as tie
 
 mul-result : tie.Need-mul-result
 mul-result c = search needs

@@ -3,8 +3,8 @@ use mathlib.Core.Path.{sym}
 use native.Mathlib.Omega.{arith}
 use lib.ListN.{List·getD-eq-default}
 use borrow.Author.Needs.{needs}
-use Rattle.constraint_export.proofs.byte_at.Statement.{statement}
-use Rattle.constraint_export.proofs.byte_at.Tie as tie
+use Rattle.slices.proofs.byte_at.Statement.{statement}
+use Rattle.slices.proofs.byte_at.Tie as tie
 
 shared-slice-read-result : tie.Need-shared-slice-read-result
 shared-slice-read-result c = search needs
