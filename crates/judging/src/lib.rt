@@ -10,7 +10,7 @@ ghost use Rattle.fields.specs.declared.Cursor.the-variants as C;
 ghost use Rattle.steps.specs.Records.{fileAnswer};
 ghost use Rattle.state.specs.States.{mostClauses, newRun};
 ghost use Rattle.listing.specs.Lines.{mostLine};
-ghost use Rattle.judging.specs.Judging.{Says};
+ghost use Rattle.judging.specs.Judging.{Says, Shows};
 ghost use Rattle.judging.specs.Running.{Ran, placeOf};
 use basis::MOST_INPUT;
 use clauses::Clause;
@@ -18,6 +18,7 @@ use clauses::no_clause;
 use clauses::no_instanced;
 use fields::Cursor;
 use header::HeaderRead;
+use inspection::put_state;
 use listing::put_accepted;
 use listing::put_bad;
 use listing::put_last;
@@ -30,14 +31,22 @@ use steps::read_file;
 use steps::step_at;
 use trail::empty_trail;
 
-// What judging a file into a buffer answers: how many bytes were written, or that the buffer is too short for every listing.
+// What judging a file into a buffer answers: how many bytes were written, and the number and place that judging ended with; or that the buffer
+// is too short for every text.
 pub enum Written {
-    Bytes { count: usize },
+    Bytes {
+        count: usize,
+        number: u8,
+        place: usize,
+    },
     Short,
 }
 
 // No listing has more bytes: 2,000 lines and the last one.
 pub const MOST_LISTING: usize = 54008;
+
+// No inspection has more: the listing, a line for each of 160 entries and 96 clauses, and two more.
+pub const MOST_INSPECTION: usize = 136078;
 
 // After the steps of a file: what stands, the answer to the last step tried, and the place after the lines written
 struct Ended {
@@ -162,11 +171,52 @@ pub fn judge(file: &[u8], out: &mut [u8]) -> Written
             let end = run_steps(file, head, place, out);
             let run = end.run;
             let count = put_last(out, end.at, run, end.number);
-            Written::Bytes { count: count }
+            Written::Bytes {
+                count: count,
+                number: end.number,
+                place: end.place as usize,
+            }
         }
         Cursor::Refused { number, place } => {
             let count = put_bad(out, 0, number, place);
-            Written::Bytes { count: count }
+            Written::Bytes {
+                count: count,
+                number: number,
+                place: place,
+            }
+        }
+    }
+}
+
+// For reviewers: the listing, and after it the final state
+pub fn inspect(file: &[u8], out: &mut [u8]) -> Written
+    ensures { λ r. ⌜ Shows (now (file .entry)) (now (out .entry)) (now (out .exit)) r ⌝ }
+{
+    if out.len() < MOST_INSPECTION {
+        return Written::Short;
+    }
+    let head = read_file(file);
+    let begin = head.at;
+    match begin {
+        Cursor::At { place } => {
+            let end = run_steps(file, head, place, out);
+            let run = end.run;
+            let table = end.table;
+            let last = put_last(out, end.at, run, end.number);
+            let count = put_state(out, last, run, table);
+            Written::Bytes {
+                count: count,
+                number: end.number,
+                place: end.place as usize,
+            }
+        }
+        Cursor::Refused { number, place } => {
+            let count = put_bad(out, 0, number, place);
+            Written::Bytes {
+                count: count,
+                number: number,
+                place: place,
+            }
         }
     }
 }
