@@ -21,6 +21,7 @@ use Rattle.listing.proofs.Once.{printed-once}
 use Rattle.judging.specs.Judging.{Leaves, LeavesOnce, Says, SaysOnce}
 use Rattle.judging.specs.Running.{Ran}
 use Rattle.judging.specs.declared.Ended.{Ended}
+use Rattle.judging.specs.declared.Written.{Written}
 use Rattle.judging.specs.declared.Written.the-variants.{Bytes, Short}
 
 -- ---- what was written
@@ -48,6 +49,14 @@ pub says-run : {s d d₁ d₂ : List ℕ} {n : ℕ} {r : Ended} → mostListing 
 says-run {r = r} room ran a =
     leaves-run room ran ((λ i. closing (records.refuted (ran .run i)) (ran .number i)) ∙ closes-as-last (ran .answer))
     (omega (arith, ran .short, length-closing (records.refuted (r .run)) (r .number))) a
+
+-- The bytes written stand in the buffer.
+pub within : (after : Answer → List ℕ) (most : ℕ) (s d d′ : List ℕ) (r : Written) (n : ℕ) → r ≡ Bytes n → Leaves after most s d d′ r → n ≤ length d′
+within after most s d d′ (Bytes m) n e (room, (w, p, count, left)) = let z : m ≡ n = cc in omega (arith, ap length left, length-append w (drop m d))
+within after most s d d′ Short n e (short, left) = absurd (let z : _≡_ {A = ℕ} 0 1 = cc in omega arith)
+
+pub says-within : (s d d′ : List ℕ) (r : Written) (n : ℕ) → r ≡ Bytes n → Says s d d′ r → n ≤ length d′
+says-within s d d′ r n e h = within lastLine mostListing s d d′ r n e h
 
 -- ---- the answer is unique
 
