@@ -24,6 +24,7 @@ use Rattle.inspection.specs.Writing.{Recorded}
 use Rattle.judging.specs.Judging.{Leaves, LeavesOnce, Says, Shows, mostInspection}
 use Rattle.judging.specs.Running.{Ran}
 use Rattle.judging.specs.declared.Ended.{Ended}
+use Rattle.judging.specs.declared.Written.{Written}
 use Rattle.judging.specs.declared.Written.the-variants.{Bytes, Short}
 
 -- ---- what was written
@@ -71,6 +72,12 @@ shows-run {m = m} {n} {r = r} room ran f g a b =
     leaves-run room ran f g (ap (λ (v : List ℕ). v ++ stateText (ran .answer .state)) (last-line ran))
     (omega (arith, ran .short, length-closing (records.refuted (r .run)) (r .number), length-append (closing (records.refuted (r .run)) (r .number)) (stateText (ran .answer .state)), state .wrote .next, state .room))
     (and-then a (state .wrote))
+
+-- The bytes written stand in the buffer.
+module _ (after : Answer → List ℕ) (most : ℕ) where
+  pub within : (s d d′ : List ℕ) (r : Written) (n : ℕ) {k p : ℕ} → r ≡ Bytes n k p → Leaves after most s d d′ r → n ≤ length d′
+  within s d d′ (Bytes m l q) n e (room, f, (w, a, count, left)) = let z : m ≡ n = cc in omega (arith, ap length left, length-append w (drop m d))
+  within s d d′ Short n e (short, left) = absurd (let z : _≡_ {A = ℕ} 0 1 = cc in omega arith)
 
 -- ---- the answer is unique
 
