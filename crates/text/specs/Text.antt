@@ -7,6 +7,7 @@ use Prim.Native.Char.{code}
 use Prim.Native.String.{String}
 use Prim.Native.String as string
 use lib.Dec.{ltb}
+use lib.IntN.{ℤ, pos, negsuc}
 use lib.ListN.{length}
 use lib.Seq.{sets}
 
@@ -27,6 +28,11 @@ decimalIn (suc f) n = cond (ltb n 10) (digit n ∷ []) (decimalIn f (n / 10) ++ 
 -- A number in decimal digits, without a zero in front; n has at most n + 1 of them.
 unfoldable pub decimal : ℕ → List ℕ
 decimal n = decimalIn n n
+
+-- A whole number in decimal digits, with a minus sign before one below zero
+abbrev pub signed : ℤ → List ℕ
+signed (pos n) = decimal n
+signed (negsuc n) = bytes "-" ++ decimal (suc n)
 
 -- What a writer leaves of the buffer d: the bytes w from i on, all others as they were. It answers the place after them.
 pub record Wrote (d : List ℕ) (i : ℕ) (w d′ : List ℕ) (r : ℕ) : Type 0 where

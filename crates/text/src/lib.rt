@@ -3,7 +3,8 @@ ghost use mathlib.Core.Path.{_≡_};
 ghost use mathlib.Core.List.{[], _∷_};
 ghost use Prim.Native.Nat.{_+_, _≤_, _<_};
 ghost use lib.ListN.{length};
-ghost use Rattle.text.specs.Text.{Wrote, decimal};
+ghost use lib.IntN.{natAbs};
+ghost use Rattle.text.specs.Text.{Wrote, decimal, signed};
 ghost use Rattle.text.specs.Text as text;
 
 pub fn put_byte(out: &mut [u8], at: usize, b: u8) -> usize
@@ -43,4 +44,27 @@ pub fn put_decimal(out: &mut [u8], at: usize, n: usize) -> usize
     }
     let next = put_decimal(out, at, n / 10);
     put_byte(out, next, digit(n % 10))
+}
+
+// How far a number is from zero
+fn size(n: i32) -> usize
+    ensures { λ r. ⌜ r ≡ natAbs n ⌝ }
+{
+    let wide = n as i64;
+    if wide < 0 {
+        return (-wide) as usize;
+    }
+    wide as usize
+}
+
+// A number with its sign
+pub fn put_signed(out: &mut [u8], at: usize, n: i32) -> usize
+    requires { ⌜ at + length (signed n) ≤ length (now out) ⌝ }
+    ensures { λ r. ⌜ Wrote (now (out .entry)) at (signed n) (now (out .exit)) r ⌝ }
+{
+    if n < 0 {
+        let next = put_byte(out, at, b'-');
+        return put_decimal(out, next, size(n));
+    }
+    put_decimal(out, at, size(n))
 }
