@@ -1,5 +1,5 @@
 -- The constants' order is strict.
-use mathlib.Core.Path.{_≡_, subst, sym}
+use mathlib.Core.Path.{subst, sym}
 use lib.IntN.{ℤ}
 use lib.Signed.{_<ℤ_, <ℤ-irrefl}
 use Rattle.basis.specs.Atoms.{ConstantsApart}

@@ -1,6 +1,6 @@
 -- The numbers that atoms and clauses are read over. The calculus takes them as a parameter and uses them at the whole numbers.
 use mathlib.Core.Path.{_≡_, refl}
-use Prim.Native.Nat.{ℕ, zero, suc}
+use Prim.Native.Nat.{ℕ, suc}
 use native.Mathlib.Omega.{arith}
 use lib.Dec.{lt→ltb}
 use lib.IntN.{ℤ, pos, _-ℤ_}

@@ -6,17 +6,17 @@ use mathlib.Core.Bool.{Bool, _&&_, _||_, cond, false, not, true}
 use Prim.Native.Nat.{_-_, _<_, _≤_, suc, zero, ℕ}
 use native.Mathlib.Numerals.{unary-clauses}
 use native.Mathlib.Omega.{arith}
-use lib.Dec.{T, T-not, eqb, eqb-refl, eqb→eq, ltb, ltb→lt}
+use lib.Dec.{T, T-not, eqb, eqb-refl, eqb→eq, leb, leb→le, ltb, ltb→lt}
 use lib.ListN.{getD, length}
 use Rattle.basis.specs.Atoms.{Possible}
 use Rattle.basis.specs.Numbers.{Numbers}
-use Rattle.basis.specs.Refusals.{accepted, notFalse}
+use Rattle.basis.specs.Refusals.{accepted, noRoom, notFalse}
 use Rattle.basis.specs.declared.Literal.{Literal}
 use Rattle.lists.proofs.Denials.{or-false}
 use Rattle.lists.proofs.Members.{anyOf-in}
 use Rattle.lists.proofs.Tests.{F→eq, Said, T→eq, and-i, and-l, and-r, fails, holds, said}
 use Rattle.lists.specs.Lists.{allOf, anyOf}
-use Rattle.calculus.specs.Answers.{AcceptedLeadsOn, AnswerUnique, Applies, FirstNotFalse, NamesNotFalse, NotFalseNamed, NumberSmallest, OtherPlacesZero, RefusedHandsBack, TriedInRisingOrder, rising}
+use Rattle.calculus.specs.Answers.{AcceptedLeadsOn, AnswerUnique, Applies, FirstNotFalse, NamesNotFalse, NotFalseNamed, NumberInTable, NumberSmallest, OtherPlacesZero, RefusedHandsBack, TriedInRisingOrder, rising}
 use Rattle.calculus.specs.Checks.{Check, firstRefusal}
 use Rattle.calculus.specs.Clauses.{complement, ground, noLiteral, sameLiteral}
 use Rattle.calculus.specs.OnTrail.{False}
@@ -46,6 +46,28 @@ all-rise b s Skip = tt
 all-rise b s (Backtrack l) = tt
 all-rise b s (Grow n) = tt
 all-rise b s (Unknown r) = tt
+
+all-in-table : (b : Bool) (s : State) (x : Step) → T (allOf (λ c. leb (c .refusal) noRoom) (asks b s x))
+all-in-table b s (Propagate c l τ) = tt
+all-in-table b s (Decide c l g τ) = tt
+all-in-table b s (Conflict c τ) = tt
+all-in-table b s (Resolve l) = tt
+all-in-table b s (Factorize i j) = tt
+all-in-table b s Skip = tt
+all-in-table b s (Backtrack l) = tt
+all-in-table b s (Grow n) = tt
+all-in-table b s (Unknown r) = tt
+
+given-in-table : (cs : List Check) → T (allOf (λ c. leb (c .refusal) noRoom) cs) → firstRefusal cs ≤ noRoom
+given-in-table [] t = omega arith
+given-in-table (c ∷ cs) t =
+    let r = given-in-table cs (and-r (leb (c .refusal) noRoom) (allOf (λ c. leb (c .refusal) noRoom) cs) t) in
+    let k = leb→le (c .refusal) noRoom (and-l (leb (c .refusal) noRoom) (allOf (λ c. leb (c .refusal) noRoom) cs) t) in
+    go r k (c .ok)
+  where
+    go : firstRefusal cs ≤ noRoom → c .refusal ≤ noRoom → (b : Bool) → cond b (firstRefusal cs) (c .refusal) ≤ noRoom
+    go r k true = r
+    go r k false = k
 
 -- Numbers that rise from above k are above k.
 above : (k : ℕ) (c : Check) (cs : List Check) → T (rising k (c ∷ cs)) → k < c .refusal
@@ -206,6 +228,9 @@ module _ (N : Numbers) where
           let e = y .numbered in
           let g = given in
           (omega arith, omega arith)
+
+  pub number-in-table : NumberInTable N
+  number-in-table s x a j = rw (ap (λ (r : Answer). r .number) (j .is)) (given-in-table (asks (j .possible) s x) (all-in-table (j .possible) s x))
 
   -- ---- the place
 

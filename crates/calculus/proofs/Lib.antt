@@ -1,5 +1,6 @@
 -- The laws and proofs behind the calculus's theorems. Nothing here has to be read to believe them.
 
+pub mod MergingExamples
 pub mod Merged
 pub mod Instances
 pub mod Truths

@@ -8,7 +8,7 @@ use lib.Dec.{T, ltb}
 use lib.ListN.{getD, length}
 use Rattle.basis.specs.Atoms.{Possible}
 use Rattle.basis.specs.Numbers.{Numbers}
-use Rattle.basis.specs.Refusals.{accepted, notFalse}
+use Rattle.basis.specs.Refusals.{accepted, noRoom, notFalse}
 use Rattle.basis.specs.declared.Literal.{Literal}
 use Rattle.calculus.specs.Checks.{Check}
 use Rattle.calculus.specs.Clauses.{ground, noLiteral}
@@ -48,6 +48,10 @@ pub record SmallestThatApplies (N : Numbers) (s : State) (x : Step) (n : ℕ) : 
 
 abbrev pub NumberSmallest : Numbers → Type 0
 NumberSmallest N = (s : State) (x : Step) (a : Answer) → Judged N s x a → SmallestThatApplies N s x (a .number)
+
+-- It is 0 or a number of the table, of which 18 is the largest.
+abbrev pub NumberInTable : Numbers → Type 0
+NumberInTable N = (s : State) (x : Step) (a : Answer) → Judged N s x a → a .number ≤ noRoom
 
 -- The refusals' numbers rise, from above k.
 abbrev pub rising : ℕ → List Check → Bool

@@ -2,18 +2,18 @@
 use mathlib.Core.Path.{_≡_}
 use mathlib.Core.Logic.{_⊎_}
 use mathlib.Core.List.{List, [], _∷_, List·Memᴰ}
-use mathlib.Core.Bool.{Bool, not, _&&_, _||_}
-use Prim.Native.Nat.{ℕ, zero, suc, _+_, _-_, _≤_}
+use mathlib.Core.Bool.{Bool, _&&_, _||_}
+use Prim.Native.Nat.{ℕ, zero, _+_, _-_, _≤_}
 use lib.IntN.{ℤ, pos, negℤ}
 use lib.Signed.{leZ}
-use lib.Dec.{T, eqb, leb}
+use lib.Dec.{eqb, leb}
 use lib.ListN.{length, getD, take, drop}
 use Rattle.basis.specs.declared.Atom.{Atom}
 use Rattle.basis.specs.Limits.{mostVariables, mostAtoms, mostLiterals, mostC}
 use Rattle.basis.specs.Refusals.{aboveLimit, outOfRange, occursNowhere, lacksBound}
 use Rattle.basis.specs.Atoms.{Proper}
 use Rattle.lists.specs.Lists.{upFrom, anyOf, allOf}
-use Rattle.calculus.specs.Checks.{between, Check, _or_, firstRefusal}
+use Rattle.calculus.specs.Checks.{between, _or_, firstRefusal}
 use Rattle.basis.specs.declared.Literal.{Literal}
 use Rattle.calculus.specs.Clauses.{arguments, Clause}
 use Rattle.calculus.specs.Merging.{occursIn}

@@ -1,18 +1,17 @@
 -- The user's demands, and what every state reached has, as statements over the rules. Each is proved in proofs/Demands.antt.
 use mathlib.Core.Path.{_≡_}
 use mathlib.Core.List.{List, [], _∷_, List·Memᴰ}
-use mathlib.Core.Option.{Option, none, some}
-use mathlib.Core.Bool.{Bool, not}
-use Prim.Native.Nat.{ℕ}
+use mathlib.Core.Option.{none, some}
+use mathlib.Core.Bool.{not}
 use lib.Dec.{T}
 use Rattle.basis.specs.declared.Literal.{Literal}
 use Rattle.basis.specs.Refusals.{keptNotPossible}
 use Rattle.basis.specs.Numbers.{Numbers, whole}
 use Rattle.basis.specs.Atoms.{Possible}
 use Rattle.calculus.specs.Clauses.{Clause, Instanced, ground}
-use Rattle.calculus.specs.Trails.{Origin, Entry, foreground, background, Trail, atomOnTrail, undefined, isFalse, decisions, atomsOf}
+use Rattle.calculus.specs.Trails.{foreground, background, Trail, atomOnTrail, undefined, isFalse, decisions, atomsOf}
 use Rattle.calculus.specs.Class.{InClass, Limited}
-use Rattle.calculus.specs.States.{State, Step, clauses}
+use Rattle.calculus.specs.States.{State, Step}
 use Rattle.calculus.specs.Admission.{Admitted}
 use Rattle.calculus.specs.Truth.{Reading, True, Follows}
 use Rattle.calculus.specs.Rules.{Answer, Judged}

@@ -3,7 +3,7 @@
 use mathlib.Core.Path.{_≡_}
 use mathlib.Core.Logic.{_↔_}
 use mathlib.Core.List.{List, [], _∷_, _++_, map}
-use mathlib.Core.Option.{Option, none, some}
+use mathlib.Core.Option.{none, some}
 use mathlib.Core.Bool.{Bool, true, false, not, _&&_, _||_, cond}
 use Prim.Native.Nat.{ℕ, zero, suc, _+_, _-_}
 use lib.Dec.{T, eqb, leb, ltb}
@@ -16,7 +16,7 @@ use Rattle.basis.specs.Atoms.{Possible}
 use Rattle.lists.specs.Lists.{anyOf, allOf, without}
 use Rattle.basis.specs.declared.Literal.{Literal}
 use Rattle.calculus.specs.Clauses.{Clause, Instanced, noLiteral, noInstanced, sameLiteral, under, ground, groundAtoms, complement}
-use Rattle.calculus.specs.Trails.{Origin, propagated, decided, Entry, foreground, background, Trail, undefined, isFalse, isDecision, levelOf, largestLevel, cut, atomsOf, appendAtoms}
+use Rattle.calculus.specs.Trails.{Origin, propagated, decided, foreground, background, Trail, undefined, isFalse, isDecision, levelOf, largestLevel, cut, atomsOf, appendAtoms}
 use Rattle.calculus.specs.Checks.{between, Check, _or_, firstRefusal}
 use Rattle.calculus.specs.Class.{withinLimits}
 use Rattle.calculus.specs.Merging.{Reason, reason, resolvent, factored}

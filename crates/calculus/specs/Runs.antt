@@ -1,12 +1,12 @@
 -- Runs: steps given one after the other, refused ones among them, and the run that demand 3 gives again.
 use mathlib.Core.Path.{_≡_}
 use mathlib.Core.List.{List, [], _∷_, reverse}
-use mathlib.Core.Option.{Option, none}
-use mathlib.Core.Bool.{Bool, cond}
-use Prim.Native.Nat.{ℕ, zero}
+use mathlib.Core.Option.{none}
+use mathlib.Core.Bool.{cond}
+use Prim.Native.Nat.{zero}
 use Rattle.basis.specs.Numbers.{Numbers}
 use Rattle.basis.specs.Refusals.{accepted}
-use Rattle.calculus.specs.Trails.{Origin, propagated, decided, Entry, foreground, background, Trail}
+use Rattle.calculus.specs.Trails.{Origin, propagated, decided, foreground, background, Trail}
 use Rattle.calculus.specs.States.{State, Step, Propagate, Decide, updated}
 use Rattle.calculus.specs.Rules.{Answer, Judged}
 

@@ -1,25 +1,13 @@
 // The constraint test for programs in C or Rust: it takes slices and answers by a number.
 ghost use mathlib.Core.Path.{_≡_};
 ghost use Prim.Native.Nat.{_<_};
-ghost use lib.ListN.{getD};
-ghost use lib.IntN.{pos};
 ghost use Rattle.basis.specs.Limits.{mostTested};
 ghost use Rattle.constraint_export.specs.Export.{atomFrom, Gathered, code, Tells};
 use basis::Atom;
 use basis::MOST_TESTED;
 use constraint::Answer;
-
-fn byte_at(s: &[u8], k: usize) -> u8
-    ensures { λ r. ⌜ r ≡ getD (now (s .entry)) k 0 ⌝ }
-{
-    if k < s.len() { s[k] } else { 0 }
-}
-
-fn word_at(s: &[i32], k: usize) -> i32
-    ensures { λ r. ⌜ r ≡ getD (now (s .entry)) k (pos 0) ⌝ }
-{
-    if k < s.len() { s[k] } else { 0 }
-}
+use slices::byte_at;
+use slices::word_at;
 
 fn atom_at(places: &[u8], bounds: &[i32], k: usize) -> Atom
     requires { ⌜ k < mostTested ⌝ }

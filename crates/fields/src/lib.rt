@@ -1,7 +1,7 @@
 // Reading a run file from a lent slice of bytes. A cursor goes by value: the place reached, or the refusal that ended the reading,
 // after which nothing more is read.
 ghost use mathlib.Core.Path.{_≡_};
-ghost use Prim.Native.Nat.{ℕ, _+_, _≤_, _<_};
+ghost use Prim.Native.Nat.{_+_, _≤_, _<_};
 ghost use lib.IntN.{pos};
 ghost use lib.ListN.{length, take, drop};
 ghost use Rattle.lists.specs.Lists.{sameList};

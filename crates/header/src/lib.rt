@@ -4,7 +4,7 @@ ghost use mathlib.Core.Path.{_≡_};
 ghost use Prim.Native.Nat.{_≤_};
 ghost use lib.ListN.{take};
 ghost use Rattle.basis.specs.Atoms.{noAtom};
-ghost use Rattle.basis.specs.Limits.{mostVariables, mostAtoms, mostLiterals, mostInput, mostPredicates, mostArguments};
+ghost use Rattle.basis.specs.Limits.{mostAtoms, mostLiterals, mostInput, mostPredicates, mostArguments};
 ghost use Rattle.calculus.specs.Clauses.{noLiteral};
 ghost use Rattle.calculus.specs.Class.{arityOf};
 ghost use Rattle.clauses.specs.Records.{clauseOf, packed};

@@ -8,3 +8,4 @@ pub mod Counting
 pub mod Walk
 pub mod Arrays
 pub mod Walks
+pub mod Parts

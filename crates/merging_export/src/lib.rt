@@ -2,8 +2,7 @@
 ghost use mathlib.Core.Path.{_≡_};
 ghost use mathlib.Core.List.{map};
 ghost use Prim.Native.Nat.{_≤_, _<_};
-ghost use lib.ListN.{getD, length};
-ghost use lib.IntN.{pos};
+ghost use lib.ListN.{length};
 ghost use Rattle.basis.specs.Limits.{mostAtoms, mostLiterals};
 ghost use Rattle.merging.specs.Results.{resolved};
 ghost use Rattle.merging_export.specs.Export.{atomFrom, literalFrom, atomsFrom, literalsFrom, constantsFrom, instancedFrom, total, atomWeight, literalWeight, weight, told};
@@ -15,18 +14,8 @@ use basis::MOST_VARIABLES;
 use clauses::Clause;
 use clauses::Instanced;
 use merging::Merged;
-
-fn byte_at(s: &[u8], k: usize) -> u8
-    ensures { λ r. ⌜ r ≡ getD (now (s .entry)) k 0 ⌝ }
-{
-    if k < s.len() { s[k] } else { 0 }
-}
-
-fn word_at(s: &[i32], k: usize) -> i32
-    ensures { λ r. ⌜ r ≡ getD (now (s .entry)) k (pos 0) ⌝ }
-{
-    if k < s.len() { s[k] } else { 0 }
-}
+use slices::byte_at;
+use slices::word_at;
 
 // ---- a clause with its instance
 

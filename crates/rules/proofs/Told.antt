@@ -22,7 +22,8 @@ use Rattle.calculus.specs.States.{State, Step}
 use Rattle.constraint.proofs.Decided.{possible-decided}
 use Rattle.calculus.specs.Runs as runs
 
-decided : (s : State) (x : Step) → (b : Bool) × (T b ↔ Possible whole (s .constants) (question s x))
+-- Whether the atoms that a step asks for are possible is decided.
+pub decided : (s : State) (x : Step) → (b : Bool) × (T b ↔ Possible whole (s .constants) (question s x))
 decided s x = go (possible-decided (s .constants) (question s x))
   where
     go : Dec (Possible whole (s .constants) (question s x)) → (b : Bool) × (T b ↔ Possible whole (s .constants) (question s x))

@@ -1,14 +1,13 @@
 -- The paper's example of 47 bytes and damaged files: one statement over the set. Computed in proofs/Cases.antt.
-use mathlib.Core.Path.{_≡_, refl}
+use mathlib.Core.Path.{_≡_}
 use mathlib.Core.List.{List, [], _∷_, _++_, map}
-use mathlib.Core.Bool.{Bool, true, false}
+use mathlib.Core.Bool.{true, false}
 use Prim.Native.Nat.{ℕ}
 use lib.IntN.{pos, negsuc}
 use lib.ListN.{take, set}
-use Rattle.calculus.specs.Clauses.{Clause}
 use Rattle.calculus.specs.States.{Propagate, Conflict, Resolve, Skip}
-use Rattle.runfile.specs.Readers.{Got, got, bad, field, times}
-use Rattle.runfile.specs.File.{File, atom, literal, clause, ruled, step, header, file}
+use Rattle.runfile.specs.Readers.{Got, got, bad}
+use Rattle.runfile.specs.File.{File, file}
 
 -- "Input, 47 bytes, one constant, P of arity 1, x ≤ 10 ∥ P(x) and x ≥ 3 ∥ ¬P(x)"
 abbrev pub example : List ℕ

@@ -1,7 +1,7 @@
 -- The run file, from its first byte to its last. The paper's section "The run file", with refusals 1 to 8 and their places.
 use mathlib.Core.List.{List, [], _∷_}
 use mathlib.Core.Bool.{_&&_, cond}
-use Prim.Native.Nat.{ℕ, zero, suc, _+_, _*_, _-_}
+use Prim.Native.Nat.{ℕ, zero, _+_, _*_, _-_}
 use lib.IntN.{ℤ, pos, negsuc, negℤ}
 use lib.Signed.{leZ}
 use lib.Dec.{eqb, leb, ltb}
@@ -16,7 +16,7 @@ use Rattle.calculus.specs.Clauses.{Clause}
 use Rattle.calculus.specs.Merging.{occursIn}
 use Rattle.calculus.specs.Class.{arityOf, differencesBounded}
 use Rattle.calculus.specs.States.{Step, Propagate, Decide, Conflict, Resolve, Factorize, Skip, Backtrack, Grow}
-use Rattle.runfile.specs.Readers.{Got, got, bad, Reader, onward, _then_, give, _judged_, field, times}
+use Rattle.runfile.specs.Readers.{Got, got, bad, Reader, _then_, give, _judged_, field, times}
 
 -- ---- numbers
 

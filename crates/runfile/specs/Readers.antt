@@ -1,7 +1,7 @@
 -- Reading: a file is a list of bytes, and what is read from a place on is a value or a refusal. "Bytes count from 0."
 use mathlib.Core.List.{List, [], _∷_, _++_}
 use mathlib.Core.Bool.{cond}
-use Prim.Native.Nat.{ℕ, zero, suc, _+_, _*_}
+use Prim.Native.Nat.{ℕ, zero, suc, _+_}
 use lib.Dec.{eqb, leb}
 use lib.ListN.{length, take, drop}
 use Rattle.basis.specs.Refusals.{accepted, endsInside}

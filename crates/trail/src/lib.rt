@@ -221,7 +221,7 @@ pub fn literals_of(c: Clause) -> usize
 }
 
 // How many atoms the record counts, and no more than it has room for
-fn atoms_of(c: Clause) -> usize
+pub fn atoms_of(c: Clause) -> usize
     ensures { λ r. ⌜ Counts (c .atoms) mostAtoms (c .atomcount) r ⌝ }
 {
     let n = c.atomcount as usize;
@@ -501,7 +501,7 @@ pub fn cut(trail: [Entry; MOST_ENTRIES], length: u8, level: u8) -> Part
 // ---- entries appended
 
 // How many constants an instance counts, and no more than there is room for
-fn constants_of(instance: [u8; MOST_VARIABLES], count: u8) -> usize
+pub fn constants_of(instance: [u8; MOST_VARIABLES], count: u8) -> usize
     ensures { λ r. ⌜ Counts instance mostVariables count r ⌝ }
 {
     let n = count as usize;

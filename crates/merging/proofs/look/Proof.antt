@@ -1,7 +1,7 @@
 -- `merging::look` meets its contract.
 -- What the search leaves follows from the tests passed and from what the calls ensure.
 use mathlib.Core.Path.{_≡_, sym}
-use Prim.Native.Nat.{_+_, _-_}
+use Prim.Native.Nat.{_+_}
 use native.Mathlib.Omega.{arith}
 use lib.ListN.{length}
 use borrow.Author.Tests.{eq-eqb, ne-eqb}

@@ -1,0 +1,49 @@
+-- `file_cases::damaged` stays within its bounds and ends.
+use native.Mathlib.Omega.{arith}
+use mathlib.Core.Path.{_≡_}
+use borrow.Author.Needs.{needs}
+use Prim.Native.Nat.{_-_}
+use lib.ListN.{length}
+use Rattle.file_cases.proofs.damaged.Statement.{statement}
+use Rattle.file_cases.proofs.damaged.Tie as tie
+
+abbrev Inv-loop : tie.InvT-loop
+Inv-loop s at next₀ i₀ next i = length next ≡ 64
+
+abbrev μ-loop : tie.MeasureT-loop
+μ-loop s at next₀ i₀ next i = length s - i
+
+loop-holds : tie.Need-loop-holds Inv-loop μ-loop
+loop-holds c = search needs
+
+number-requires : tie.Need-number-requires Inv-loop μ-loop
+number-requires c κs = search needs
+
+number-requires-2 : tie.Need-number-requires-2 Inv-loop μ-loop
+number-requires-2 c κs = search needs
+
+changed-requires : tie.Need-changed-requires Inv-loop μ-loop
+changed-requires c κs = search needs
+
+loop-less : tie.Need-loop-less Inv-loop μ-loop
+loop-less c = omega (arith, c .before .before .number .ensures .1 (c .before .before .before .loop-test .taken), c .before .number2 .ensures .0)
+
+loop-again : tie.Need-loop-again Inv-loop μ-loop
+loop-again c = search needs
+
+returns : tie.Need-returns Inv-loop μ-loop
+returns c = search needs
+
+pub damaged-spec : {M : Type 1} → statement M
+damaged-spec =
+    tie.close
+    (tie.spec
+    Inv-loop
+    μ-loop
+    loop-holds
+    number-requires
+    number-requires-2
+    changed-requires
+    loop-less
+    loop-again
+    returns)

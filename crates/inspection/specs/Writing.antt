@@ -1,0 +1,107 @@
+-- The most bytes that each text has, from the paper's limits, and what a writer promises.
+use mathlib.Core.Path.{_≡_}
+use mathlib.Core.Bool.{Bool, true, false}
+use mathlib.Core.List.{List}
+use mathlib.Core.Option.{Option, none, some}
+use Prim.Native.Nat.{ℕ, _+_, _*_, _≤_}
+use Rattle.basis.specs.Limits.{mostVariables, mostAtoms, mostLiterals, mostArguments, mostEntries}
+use Rattle.calculus.specs.Clauses as calculus
+use Rattle.calculus.specs.States.{State, clauses}
+use Rattle.clauses.specs.Records.{clauseOf, instancedOf}
+use Rattle.clauses.specs.declared.Clause.{Clause}
+use Rattle.clauses.specs.declared.Instanced.{Instanced}
+use Rattle.trail.specs.Entries.{entryOf}
+use Rattle.trail.specs.declared.Entry.{Entry}
+use Rattle.rules.specs.Answers.{RunOf}
+use Rattle.rules.specs.declared.Run.{Run}
+use Rattle.state.specs.States.{mostClauses, packedTable}
+use Rattle.text.specs.Text.{Wrote}
+use Rattle.inspection.specs.StateText.{entryLine, clauseLine, stateText}
+
+-- ---- how long a text can be
+
+-- A byte has three digits.
+abbrev pub mostNumber : ℕ
+mostNumber = 3
+
+-- c has a sign and ten digits: any number of 32 bits, wider than the paper's range.
+abbrev pub mostSigned : ℕ
+mostSigned = 11
+
+-- `255-255<=-2147483648`
+abbrev pub mostAtom : ℕ
+mostAtom = mostNumber + 1 + mostNumber + 2 + mostSigned
+
+-- n numbers, each with a comma, in brackets
+abbrev pub mostTuple : ℕ → ℕ
+mostTuple n = 2 + n * (1 + mostNumber)
+
+-- `~P255(255,255,255)`
+abbrev pub mostLiteral : ℕ
+mostLiteral = 2 + mostNumber + mostTuple mostArguments
+
+-- ` propagate 255 255 (..)`
+abbrev pub mostRule : ℕ
+mostRule = 11
+
+abbrev pub mostStep : ℕ
+mostStep = mostRule + mostNumber + 1 + mostNumber + 1 + mostTuple mostVariables
+
+-- An atom is shorter than a literal with its step.
+abbrev pub mostEntry : ℕ
+mostEntry = mostLiteral + mostStep
+
+abbrev pub mostEntryLine : ℕ
+mostEntryLine = 6 + mostNumber + 1 + mostEntry + 1
+
+abbrev pub mostClauseText : ℕ
+mostClauseText = mostNumber + 2 + mostAtoms * (1 + mostAtom) + 1 + mostLiterals * (1 + mostLiteral)
+
+abbrev pub mostClauseLine : ℕ
+mostClauseLine = 7 + mostNumber + 1 + mostClauseText + 1
+
+abbrev pub mostFirstLine : ℕ
+mostFirstLine = 10 + mostNumber + 7 + mostNumber + 1
+
+abbrev pub mostConflict : ℕ
+mostConflict = mostClauseText + 4 + mostTuple mostVariables
+
+abbrev pub mostConflictLine : ℕ
+mostConflictLine = 9 + mostConflict + 1
+
+-- No state's text is longer.
+abbrev pub mostState : ℕ
+mostState = mostFirstLine + mostEntries * mostEntryLine + mostClauses * mostClauseLine + mostConflictLine
+
+-- ---- what is promised
+
+-- The line of entry number n, of its record
+abbrev pub entryLineOf : ℕ → Entry → List ℕ
+entryLineOf n e = entryLine n (entryOf e)
+
+-- The line of clause number n, of its record
+abbrev pub clauseLineOf : ℕ → Clause → List ℕ
+clauseLineOf n c = clauseLine n (clauseOf c)
+
+-- The conflict that a record says, where one stands
+abbrev pub conflictSaid : Bool → Instanced → Option calculus.Instanced
+conflictSaid false n = none
+conflictSaid true n = some (instancedOf n)
+
+-- A writer left the text w in the buffer d from i on, all other bytes as they were, and w has at most so many bytes.
+pub record Put (most : ℕ) (d : List ℕ) (i : ℕ) (w d′ : List ℕ) (r : ℕ) : Type 0 where
+  pub wrote : Wrote d i w d′ r
+  pub room : r ≤ i + most
+
+-- The run and the table beside it are the records of the state s, and s was reached.
+pub record Recorded (run : Run) (table : List Clause) (s : State) : Type 0 where
+  pub run-of : RunOf run s
+  pub table-is : table ≡ packedTable (clauses s)
+
+-- Taken for granted of a run and a table: they are of one state reached.
+abbrev pub Kept : Run → List Clause → Type 0
+Kept run table = (s : State) × Recorded run table s
+
+-- What `put_state` promises: that state's text.
+abbrev pub Shows : Run → List Clause → (before : List ℕ) (at : ℕ) (after : List ℕ) (next : ℕ) → Type 0
+Shows run table d i d′ r = (s : State) → Recorded run table s → Put mostState d i (stateText s) d′ r

@@ -1,0 +1,7 @@
+-- Laws of listings.
+pub mod Lines
+pub mod Once
+pub mod Every
+pub mod NoModel
+pub mod Example
+pub mod Lengths

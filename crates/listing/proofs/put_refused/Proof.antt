@@ -1,0 +1,42 @@
+use native.Mathlib.Omega.{arith}
+use Rattle.rules.specs.Records.{stepOf}
+use Rattle.text.proofs.Text.{and-then}
+use Rattle.listing.specs.Lines.{refusedLine}
+use Rattle.listing.proofs.Lines.{length-numbered, digits-byte}
+use borrow.Author.Needs.{needs}
+use Rattle.listing.proofs.put_refused.Statement.{statement}
+use Rattle.listing.proofs.put_refused.Tie as tie
+
+put-numbered-requires : tie.Need-put-numbered-requires
+put-numbered-requires c κs = search needs
+
+slice-aggregate-put-word : tie.Need-slice-aggregate-put-word
+slice-aggregate-put-word c = search needs
+
+put-word-requires : tie.Need-put-word-requires
+put-word-requires c κs = omega (arith, length-numbered (c .before .before .before .before .before .before .before .args .n) (stepOf (c .before .before .before .before .before .before .before .args .x)) (c .before .before .before .before .before .before .before .pre .0))
+
+put-decimal-requires : tie.Need-put-decimal-requires
+put-decimal-requires c κs = omega (arith, length-numbered (c .before .before .before .before .before .before .before .before .before .before .before .args .n) (stepOf (c .before .before .before .before .before .before .before .before .before .before .before .args .x)) (c .before .before .before .before .before .before .before .before .before .before .before .pre .0), digits-byte (c .before .before .before .before .before .before .before .before .before .before .before .args .refusal) (omega arith))
+
+put-byte-requires : tie.Need-put-byte-requires
+put-byte-requires c κs = omega (arith, length-numbered (c .before .before .before .before .before .before .before .before .before .before .before .before .before .before .before .args .n) (stepOf (c .before .before .before .before .before .before .before .before .before .before .before .before .before .before .before .args .x)) (c .before .before .before .before .before .before .before .before .before .before .before .before .before .before .before .pre .0), digits-byte (c .before .before .before .before .before .before .before .before .before .before .before .before .before .before .before .args .refusal) (omega arith))
+
+same-length : tie.Need-same-length
+same-length c = search needs
+
+returns : tie.Need-returns
+unfolding refusedLine
+returns c = and-then (and-then (and-then (c .before .before .before .before .before .before .before .before .before .before .before .before .before .before .before .put-numbered .ensures) (c .before .before .before .before .before .before .before .before .before .before .put-word .ensures)) (c .before .before .before .before .before .before .put-decimal .ensures)) (c .before .before .put-byte .ensures)
+
+pub put-refused-spec : {M : Type 1} → statement M
+put-refused-spec =
+    tie.close
+    (tie.spec
+    put-numbered-requires
+    slice-aggregate-put-word
+    put-word-requires
+    put-decimal-requires
+    put-byte-requires
+    same-length
+    returns)
