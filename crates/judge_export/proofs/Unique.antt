@@ -1,7 +1,5 @@
 -- The exported functions' numbers, and what they leave of lent slices, are unique.
 use mathlib.Core.Path.{sym, ap, _∙_}
-use mathlib.Core.List.{List}
-use Prim.Native.Nat.{ℕ}
 use Rattle.listing.specs.Lines.{lastLine}
 use Rattle.listing.specs.Listing.{mostListing}
 use Rattle.judging.specs.Judging.{inspected, mostInspection}

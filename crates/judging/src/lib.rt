@@ -2,20 +2,13 @@
 ghost use mathlib.Core.Path.{_≡_};
 ghost use Prim.Native.Nat.{_*_, _≤_};
 ghost use lib.ListN.{length};
-ghost use Rattle.calculus.specs.Clauses as calculus;
-ghost use Rattle.clauses.specs.Records.{packed};
-ghost use Rattle.lists.specs.Arrays.{exactly};
 ghost use Rattle.runfile.specs.File.{mostSteps};
 ghost use Rattle.fields.specs.declared.Cursor.the-variants as C;
 ghost use Rattle.steps.specs.Records.{fileAnswer};
-ghost use Rattle.state.specs.States.{mostClauses, newRun};
 ghost use Rattle.listing.specs.Lines.{mostLine};
 ghost use Rattle.judging.specs.Judging.{Says, Shows};
 ghost use Rattle.judging.specs.Running.{Ran, placeOf};
-use basis::MOST_INPUT;
 use clauses::Clause;
-use clauses::no_clause;
-use clauses::no_instanced;
 use fields::Cursor;
 use header::HeaderRead;
 use inspection::put_state;
@@ -26,10 +19,11 @@ use listing::put_refused;
 use rules::Run;
 use state::MOST_CLAUSES;
 use state::looked_at;
+use state::new_run;
 use state::slot_of;
+use state::with_room;
 use steps::read_file;
 use steps::step_at;
-use trail::empty_trail;
 
 // What judging a file into a buffer answers: how many bytes were written, and the number and place that judging ended with; or that the buffer
 // is too short for every text.
@@ -55,41 +49,6 @@ struct Ended {
     number: u8,
     place: u8,
     at: usize,
-}
-
-// ---- before the first step
-
-// A run of no steps
-fn new_run(constants: u8, input: u8) -> Run
-    ensures { λ r. ⌜ r ≡ newRun constants input ⌝ }
-{
-    let trail = empty_trail();
-    let conflict = no_instanced();
-    Run {
-        constants: constants,
-        input: input,
-        learned: 0,
-        level: 0,
-        length: 0,
-        stands: false,
-        trail: trail,
-        conflict: conflict,
-    }
-}
-
-// The input clauses, and room for the learned ones
-fn with_room(clauses: [Clause; MOST_INPUT]) -> [Clause; MOST_CLAUSES]
-    ensures { λ r. ⌜ r ≡ exactly mostClauses (packed calculus.noClause) clauses ⌝ }
-{
-    let blank = no_clause();
-    let mut out = [blank; MOST_CLAUSES];
-    let mut j: usize = 0;
-    while j < MOST_INPUT {
-        let c = clauses[j];
-        out[j] = c;
-        j += 1;
-    }
-    out
 }
 
 // ---- the steps
