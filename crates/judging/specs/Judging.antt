@@ -16,7 +16,8 @@ use Rattle.judging.specs.declared.Written.{Written}
 use Rattle.judging.specs.declared.Written.the-variants.{Bytes, Short}
 
 -- What is answered of the file s, and left of the buffer d, where `after` is printed after the steps' lines and no text has more than `most`
--- bytes. A buffer with room for every text has the text's n bytes at its front, and the bytes past them stay; a shorter one stays as it was.
+-- bytes. Into a buffer of at least so many the text is written, n bytes from the first on, and the bytes past them stay. A shorter one stays
+-- as it was.
 abbrev pub Leaves : (after : Answer → List ℕ) (most : ℕ) (s d d′ : List ℕ) → Written → Type 0
 Leaves after most s d d′ (Bytes n) = (most ≤ length d) × ((w : List ℕ) × Printed after s w × (n ≡ length w) × (d′ ≡ w ++ drop n d))
 Leaves after most s d d′ Short = (length d < most) × (d′ ≡ d)
@@ -25,7 +26,8 @@ Leaves after most s d d′ Short = (length d < most) × (d′ ≡ d)
 abbrev pub Says : (s d d′ : List ℕ) → Written → Type 0
 Says s d d′ r = Leaves lastLine mostListing s d d′ r
 
--- The answer is unique, and so is what every lent byte holds afterwards. Proved in proofs/Judging.antt.
+-- "What it gives back and what every lent byte holds afterwards, refusals too, strongly enough that the answer is unique." Proved in
+-- proofs/Judging.antt.
 abbrev pub LeavesOnce : Type 0
 LeavesOnce = (after : Answer → List ℕ) (most : ℕ) (s d d₁ d₂ : List ℕ) (r₁ r₂ : Written) → Leaves after most s d d₁ r₁ → Leaves after most s d d₂ r₂ → (r₁ ≡ r₂) × (d₁ ≡ d₂)
 
