@@ -26,7 +26,7 @@ use steps::read_file;
 use steps::step_at;
 
 // What judging a file into a buffer answers: how many bytes were written, and the number and place that judging ended with; or that the buffer
-// is too short for every text.
+// is shorter than a text can be, and was left.
 pub enum Written {
     Bytes {
         count: usize,
@@ -36,7 +36,7 @@ pub enum Written {
     Short,
 }
 
-// No listing has more bytes: 2,000 lines and the last one.
+// No listing has more bytes: the lines of 2,000 steps and the last line.
 pub const MOST_LISTING: usize = 54008;
 
 // No inspection has more: the listing, a line for each of 160 entries and 96 clauses, and two more.
@@ -53,7 +53,7 @@ struct Ended {
 
 // ---- the steps
 
-// Where a cursor stands
+// Where a cursor stands, or was refused
 fn place_of(at: Cursor) -> usize
     ensures { λ r. ⌜ r ≡ placeOf at ⌝ }
 {
@@ -63,6 +63,7 @@ fn place_of(at: Cursor) -> usize
     }
 }
 
+// The last answer, with what stands and the place reached
 fn ended_with(run: Run, table: [Clause; MOST_CLAUSES], number: u8, place: u8, at: usize) -> Ended
     ensures { λ r. ⌜ r ≡ record { run = run; table = table; number = number; place = place; at = at } ⌝ }
 {
@@ -75,8 +76,8 @@ fn ended_with(run: Run, table: [Clause; MOST_CLAUSES], number: u8, place: u8, at
     }
 }
 
-// The steps of a file in order are tried, one after the other, each with its line. "It stops at a refused step." The table stays here: a step
-// is handed the one clause that it looks at, and only an accepted Backtrack writes.
+// Tries the steps of a file that is in order, a line for each. "It stops at a refused step." The table stays here: a step is handed the one
+// clause that it looks at, and only an accepted Backtrack writes it.
 fn run_steps(file: &[u8], head: HeaderRead, first: usize, out: &mut [u8]) -> Ended
     requires { ⌜ (head ≡ fileAnswer (now file)) × (head .at ≡ C.At first) × (mostSteps * mostLine ≤ length (now out)) ⌝ }
     ensures { λ r. ⌜ Ran (now (file .entry)) (now (out .entry)) (now (out .exit)) r ⌝ }
@@ -116,7 +117,7 @@ fn run_steps(file: &[u8], head: HeaderRead, first: usize, out: &mut [u8]) -> End
 
 // ---- the file
 
-// "A program that reads a run file .. and prints the verdict": the listing of the file, written from the buffer's first byte on.
+// The listing of a file, written from the buffer's first byte on. The whole file is judged before the first step is tried.
 pub fn judge(file: &[u8], out: &mut [u8]) -> Written
     ensures { λ r. ⌜ Says (now (file .entry)) (now (out .entry)) (now (out .exit)) r ⌝ }
 {
