@@ -57,7 +57,6 @@ use trail::Kind;
 use trail::append_propagated;
 use trail::back_level;
 use trail::cut;
-use trail::drop_last;
 use trail::empty_trail;
 use trail::first_constants;
 use trail::first_not_false;
@@ -65,6 +64,7 @@ use trail::is_decision;
 use trail::level_of;
 use trail::literal_instance;
 use trail::literals_of;
+use trail::no_entry;
 use trail::other_instances;
 use trail::possible;
 use trail::push_decided;
@@ -456,13 +456,12 @@ impl Run {
         if in_conflict(n, e) {
             return refused(self, WRONG_LITERAL);
         }
-        let trail = self.trail;
-        let shorter = drop_last(trail, length);
         let level = level_after(e, self.level);
+        let blank = no_entry();
         let mut next = self;
         next.level = level;
         next.length = length - 1;
-        next.trail = shorter;
+        next.trail[k] = blank;
         accepted(next)
     }
 

@@ -2,7 +2,7 @@
 use mathlib.Core.Path.{_∙_, _≡_, ap, ap₂, refl, subst, sym}
 use mathlib.Core.List.{List, [], _++_, _∷_, map, map-append, reverse, reverseAux-eq}
 use mathlib.Core.Bool.{Bool, cond, false, true}
-use Prim.Native.Nat.{_+_, _-_, _<_, _≤_, pred, suc, zero, ℕ}
+use Prim.Native.Nat.{_+_, _<_, _≤_, pred, suc, zero, ℕ}
 use native.Mathlib.Numerals.{add-one}
 use native.Mathlib.Omega.{arith}
 use lib.Dec.{leb}
@@ -118,9 +118,6 @@ stored-back es ts k k′ e q b S = rw b (stored-drop (rw q at S))
 
 pub dropped : (es : List Entry) (n k : ℕ) (e : Entry) → n ≡ suc k → e ≡ noEntry → Held es n → Stored (set es k e) k (withoutLast (trailOf es n))
 dropped es n k e q b H = rw (q, b) (stored-drop (rw q at H))
-
-pub dropped-none : (es : List Entry) (n : ℕ) → n ≡ 0 → Held es n → Stored es (n - 1) (withoutLast (trailOf es n))
-dropped-none es n q H = rw q (rw q at H)
 
 -- The record of a trail within the limits says that trail.
 pub packed-stored : (t : Trail) → length t ≤ mostEntries → AllShort t → Stored (packedTrail t) (length t) t

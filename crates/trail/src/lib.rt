@@ -13,7 +13,7 @@ ghost use Rattle.calculus.specs.Clauses.{noLiteral, sameLiteral, groundAtoms};
 ghost use Rattle.calculus.specs.Clauses as calculus;
 ghost use Rattle.calculus.specs.Trails.{onTrail, atomOnTrail, isLiteral, isAtom, isDecision, levelOf, largestLevel, atomsOf, foreground, background, propagated, decided};
 ghost use Rattle.calculus.specs.Trails as trails;
-ghost use Rattle.calculus.specs.Rules.{otherInstances, backLevel, propagatedTrail, withoutLast};
+ghost use Rattle.calculus.specs.Rules.{otherInstances, backLevel, propagatedTrail};
 ghost use Rattle.clauses.specs.Records.{clauseOf, instancedOf};
 ghost use Rattle.trail.specs.Entries.{noEntry, entryOf, trailOf, packedTrail, Stored, Held, Recorded};
 ghost use Rattle.trail.specs.Answers.{Counts, isAbout, passes, firstNumber, Listed, Grew, isBackground, Gathers, together, SaysPossible};
@@ -435,20 +435,6 @@ pub fn back_level(trail: [Entry; MOST_ENTRIES], length: u8, n: Instanced, l: u8)
 }
 
 // ---- entries taken away
-
-// The trail without its last entry
-pub fn drop_last(trail: [Entry; MOST_ENTRIES], length: u8) -> [Entry; MOST_ENTRIES]
-    requires { ⌜ Held trail length ⌝ }
-    ensures { λ r. ⌜ Stored r (length - 1) (withoutLast (trailOf trail length)) ⌝ }
-{
-    if length == 0 {
-        return trail;
-    }
-    let k = length as usize - 1;
-    let mut out = trail;
-    out[k] = no_entry();
-    out
-}
 
 // How many entries stand before decision `level` + 1
 fn cut_length(trail: [Entry; MOST_ENTRIES], length: u8, level: u8) -> u8

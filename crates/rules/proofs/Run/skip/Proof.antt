@@ -3,6 +3,7 @@ use mathlib.Core.Path.{sym, _∙_}
 use Rattle.rules.proofs.Parts.{off, on}
 use Rattle.rules.proofs.Runs.{kept-small}
 use Rattle.rules.proofs.Simple.{skip-no-conflict, skip-no-entry, skip-complement, skip-accepted}
+use Rattle.trail.proofs.Stored.{dropped}
 use borrow.Author.Needs.{needs}
 use Rattle.rules.proofs.Run.skip.Statement.{statement}
 use Rattle.rules.proofs.Run.skip.Tie as tie
@@ -40,17 +41,23 @@ refused-requires-3 c κs = search needs
 returns-3 : tie.Need-returns-3
 returns-3 c = rw (c .refused3 .ensures) (λ s R. skip-complement R (on _ (c .before .before .before .before .before .before .if1 .left)) (c .before .before .before .before .before .if2 .left) (sym (c .before .before .in-conflict .ensures) ∙ c .before .if3 .taken))
 
-drop-last-requires : tie.Need-drop-last-requires
-drop-last-requires c κs = kept-small (c .before .before .before .before .before .before .before .pre) .trail-held
-
 level-after-requires : tie.Need-level-after-requires
 level-after-requires c κs = search needs
+
+no-entry-requires : tie.Need-no-entry-requires
+no-entry-requires c κs = search needs
+
+mul-blank : tie.Need-mul-blank
+mul-blank c = search needs
+
+element-set-from-blank : tie.Need-element-set-from-blank
+element-set-from-blank c = let h = kept-small (c .before .before .before .before .before .before .before .before .pre) in omega (arith, h .few-entries)
 
 accepted-requires : tie.Need-accepted-requires
 accepted-requires c κs = search needs
 
 returns-4 : tie.Need-returns-4
-returns-4 c = rw (c .accepted .ensures) (λ s R. skip-accepted R (on _ (c .before .before .before .before .before .before .before .before .before .if1 .left)) (c .before .before .before .before .before .before .before .before .if2 .left) (sym (c .before .before .before .before .before .in-conflict .ensures) ∙ c .before .before .before .before .if3 .left) _ (c .before .level-after .ensures) _ (c .before .before .drop-last .ensures))
+returns-4 c = rw (c .accepted .ensures) (λ s R. skip-accepted R (on _ (c .before .before .before .before .before .before .before .before .if1 .left)) (c .before .before .before .before .before .before .before .if2 .left) (sym (c .before .before .before .before .in-conflict .ensures) ∙ c .before .before .before .if3 .left) _ (c .before .before .level-after .ensures) _ (dropped _ _ _ _ (omega arith) (c .before .no-entry .ensures) (kept-small (c .before .before .before .before .before .before .before .before .before .pre) .trail-held)))
 
 pub skip-spec : {M : Type 1} → statement M
 skip-spec =
@@ -67,7 +74,9 @@ skip-spec =
     in-conflict-requires
     refused-requires-3
     returns-3
-    drop-last-requires
     level-after-requires
+    no-entry-requires
+    mul-blank
+    element-set-from-blank
     accepted-requires
     returns-4)
