@@ -375,7 +375,8 @@ pub fn put_state(out: &mut [u8], at: usize, run: Run, table: [Clause; MOST_CLAUS
 {
     let trail = run.trail;
     let conflict = run.conflict;
-    let count = run.input as usize + run.learned as usize;
+    let input = run.input as usize;
+    let count = input + run.learned as usize;
     let first = put_first_line(out, at, run.constants, run.level);
     let entries = put_trail(out, first, trail, run.length);
     let clauses = put_clauses(out, entries, table, count);
