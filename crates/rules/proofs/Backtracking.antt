@@ -17,13 +17,14 @@ use Rattle.basis.specs.Refusals.{keptNotPossible, noRoom, noSuch, notAbove, wro
 use Rattle.basis.specs.declared.Literal.{Literal}
 use Rattle.lists.specs.Lists.{anyOf}
 use Rattle.rules.specs.Answers.{RunOf, Told}
+use Rattle.rules.specs.Records.{learnt}
 use Rattle.rules.specs.declared.Run.{Run}
 use Rattle.calculus.proofs.Levels.{cut-tail}
 use Rattle.calculus.specs.Clauses.{groundAtoms, sameLiteral}
 use Rattle.calculus.specs.Rules.{backLevel, literalExists, literalInstance, next, otherInstances, propagatedTrail, question}
 use Rattle.calculus.specs.States.{Backtrack, State, clauses, conflictOf}
 use Rattle.calculus.specs.Trails.{Trail, atomsOf, cut, levelOf, propagated}
-use Rattle.clauses.specs.Records.{instancedOf, packedInstanced}
+use Rattle.clauses.specs.Records.{instancedOf}
 use Rattle.rules.proofs.Naming.{decides}
 use Rattle.rules.proofs.Reached.{AllFine, fine-atoms, fine-tail, ground-proper}
 use Rattle.rules.proofs.Runs.{clauses-is, conflict-says, constants-is, fine, fine-conflict, input-is, learned-is, packed-as, standing, stands-is, stored}
@@ -120,9 +121,8 @@ module _ {r : Run} {s : State} (R : RunOf r s) (l : ℕ) where
               pub backtrack-no-room : mostLearned ≤ r .learned → Told s (Backtrack l) (record { run = r; number = noRoom; place = 0 })
               backtrack-no-room h = refused-by R (Backtrack l) b says noRoom tt tt (simp (standing R e, exists h₁, again-is h₂, above, h₄, sym (grew-is .fits) ∙ h₅, lt-leb (suc (length (s .learned))) mostLearned (omega (arith, learned-is R))))
 
-              pub backtrack-accepted : r .learned < mostLearned → (blank : Instanced) → blank ≡ packedInstanced calculus.noInstanced
-                  → Told s (Backtrack l) (record { run = record { constants = r .constants; input = r .input; learned = r .learned + 1; level = i; length = w .length; stands = false; trail = w .trail; conflict = blank }; number = 0; place = 0 })
-              backtrack-accepted h blank q = accepted-as R (Backtrack l) b says
+              pub backtrack-accepted : r .learned < mostLearned → Told s (Backtrack l) (record { run = learnt r w i; number = 0; place = 0 })
+              backtrack-accepted h = accepted-as R (Backtrack l) b says
                   (simp (standing R e, exists h₁, again-is h₂, above, h₄, sym (grew-is .fits) ∙ h₅, le-leb (suc (length (s .learned))) mostLearned (omega (arith, learned-is R))) (tt, (tt, (tt, (tt, (tt, (tt, tt)))))))
                   _ (packed-as (next s (Backtrack l)) (constants-is R) (input-is R) (omega (arith, learned-is R, length-append (s .learned) (N .clause ∷ []))) back-is refl
-                  (subst (λ (c : Bool). Stored (w .trail) (w .length) (cond c t′ [])) h₅ (grew-is .holds)) q)
+                  (subst (λ (c : Bool). Stored (w .trail) (w .length) (cond c t′ [])) h₅ (grew-is .holds)) refl)

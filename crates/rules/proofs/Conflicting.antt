@@ -2,7 +2,7 @@
 use mathlib.Core.Path.{_∙_, _≡_, refl, subst, sym}
 use mathlib.Core.Logic.{_↔_}
 use mathlib.Core.List.{List, _++_}
-use mathlib.Core.Bool.{Bool, false, true}
+use mathlib.Core.Bool.{Bool, _&&_, false, true}
 use Prim.Native.Nat.{_+_, _<_, _≤_, ℕ}
 use native.Mathlib.Omega.{arith}
 use lib.Dec.{T, leb}
@@ -24,7 +24,7 @@ use Rattle.calculus.specs.Rules.{allFalse, clauseExists, instanceFits, next, qu
 use Rattle.calculus.specs.States.{Conflict, State, Step, clauseAt, clauses, stands}
 use Rattle.calculus.specs.Trails.{atomsOf}
 use Rattle.clauses.specs.Records.{clauseOf, packed}
-use Rattle.rules.proofs.Naming.{exists-is, exists-there, instance-is, instance-long, instance-short, named-packed}
+use Rattle.rules.proofs.Naming.{and-true, asked-is, instance-is, instance-long, instance-short, named-packed}
 use Rattle.rules.proofs.Runs.{constants-is, input-is, learned-is, level-is, packed-as, standing, stands-is, stored}
 use Rattle.rules.proofs.Testing.{carry, not-zero, tested}
 use Rattle.rules.proofs.Told.{accepted-as, refused, refused-at, refused-by}
@@ -56,43 +56,49 @@ module _ {r : Run} {s : State} (R : RunOf r s) (k : Clause) (c count : ℕ) (ι 
       free : stands (s .conflict) ≡ false
       free = sym (stands-is R) ∙ h₂
 
-      pub conflict-no-clause : between 1 (r .input + r .learned) c ≡ false → Told s (Conflict c (exactly count 0 ι)) (record { run = r; number = noSuch; place = 0 })
-      conflict-no-clause h = given (refused R y noSuch tt tt (λ b. simp (short, free, sym (exists-is R k c looks) ∙ h)))
+      abbrev D : calculus.Clause
+      D = clauseAt (clauses s) c
 
-      module _ (h₃ : between 1 (r .input + r .learned) c ≡ true) where
-        abbrev D : calculus.Clause
-        D = clauseAt (clauses s) c
+      -- What the code asks of the numbers
+      abbrev Named : Bool
+      Named = between 1 (r .input + r .learned) c && instanceFits (r .constants) (clauseOf k) υ
 
-        named : {b : Bool} → instanceFits (r .constants) (clauseOf k) υ ≡ b → instanceFits (s .constants) D υ ≡ b
-        named {b} h = subst (λ (n : ℕ). instanceFits n D υ ≡ b) (constants-is R) (carry R k c looks h₃ (λ D t. instanceFits (r .constants) D υ ≡ b) h)
+      named : {b : Bool} → Named ≡ b → (clauseExists (clauses s) c && instanceFits (s .constants) D υ) ≡ b
+      named h = sym (asked-is R k c looks (λ n E. instanceFits n E υ)) ∙ h
 
-        pub conflict-no-such : instanceFits (r .constants) (clauseOf k) υ ≡ false → Told s (Conflict c (exactly count 0 ι)) (record { run = r; number = noSuch; place = 0 })
-        conflict-no-such h = given (refused R y noSuch tt tt (λ b. simp (short, free, exists-there R k c looks h₃, named h)))
+      pub conflict-no-such : Named ≡ false → Told s (Conflict c (exactly count 0 ι)) (record { run = r; number = noSuch; place = 0 })
+      conflict-no-such h = given (refused R y noSuch tt tt (λ b. simp (short, free, named h)))
 
-        module _ (h₄ : instanceFits (r .constants) (clauseOf k) υ ≡ true) (z : Literal) (p : ℕ) (p-is : p ≡ firstNumber (passes false z (trailOf (r .trail) (r .length)) υ) (clauseOf k .literals)) where
-          number-is : p ≡ firstNumber (passes false z (s .trail) υ) (D .literals)
-          number-is = carry R k c looks h₃ (λ D t. p ≡ firstNumber (passes false z t υ) (D .literals)) p-is
+      module _ (h₃ : Named ≡ true) (z : Literal) (p : ℕ) (p-is : p ≡ firstNumber (passes false z (trailOf (r .trail) (r .length)) υ) (clauseOf k .literals)) where
+        there : between 1 (r .input + r .learned) c ≡ true
+        there = and-true (between 1 (r .input + r .learned) c) (instanceFits (r .constants) (clauseOf k) υ) h₃ .0
 
-          some-not : 0 < p → ¬ (firstNumber (passes false z (s .trail) υ) (D .literals) ≡ 0)
-          some-not h q = not-zero h (number-is ∙ q)
+        fits : instanceFits (s .constants) D υ ≡ true
+        fits = and-true (clauseExists (clauses s) c) (instanceFits (s .constants) D υ) (named h₃) .1
 
-          pub conflict-not-false : 0 < p → Told s (Conflict c (exactly count 0 ι)) (record { run = r; number = notFalse; place = p })
-          conflict-not-false h = given (refused-at R y p (number-is ∙ sym (its-number (passes false z (s .trail) υ) (D .literals) (some-not h)))
-              (λ b. simp (short, free, exists-there R k c looks h₃, named h₄, one-fails (passes false z (s .trail) υ) (D .literals) (some-not h))))
+        number-is : p ≡ firstNumber (passes false z (s .trail) υ) (D .literals)
+        number-is = carry R k c looks there (λ D t. p ≡ firstNumber (passes false z t υ) (D .literals)) p-is
 
-          module _ (h₅ : p ≤ 0) (b : Bool)
-              (d : T b ↔ (Testable (r .constants) (atomsOf (trailOf (r .trail) (r .length)) ++ groundAtoms υ (clauseOf k .atoms)) × Possible whole (r .constants) (atomsOf (trailOf (r .trail) (r .length)) ++ groundAtoms υ (clauseOf k .atoms)))) where
-            all : allFalse (s .trail) υ (D .literals) ≡ true
-            all = none-fails (passes false z (s .trail) υ) (D .literals) (sym number-is ∙ omega arith)
+        some-not : 0 < p → ¬ (firstNumber (passes false z (s .trail) υ) (D .literals) ≡ 0)
+        some-not h q = not-zero h (number-is ∙ q)
 
-            says : T b ↔ Possible whole (s .constants) (question s y)
-            says = tested R k c looks h₃ υ b (named h₄) d
+        pub conflict-not-false : 0 < p → Told s (Conflict c (exactly count 0 ι)) (record { run = r; number = notFalse; place = p })
+        conflict-not-false h = given (refused-at R y p (number-is ∙ sym (its-number (passes false z (s .trail) υ) (D .literals) (some-not h)))
+            (λ b. simp (short, free, named h₃, one-fails (passes false z (s .trail) υ) (D .literals) (some-not h))))
 
-            pub conflict-impossible : b ≡ false → Told s (Conflict c (exactly count 0 ι)) (record { run = r; number = notPossible; place = 0 })
-            conflict-impossible h = given (refused-by R y b says notPossible tt tt (simp (short, free, exists-there R k c looks h₃, named h₄, all, h)))
+        module _ (h₄ : p ≤ 0) (b : Bool)
+            (d : T b ↔ (Testable (r .constants) (atomsOf (trailOf (r .trail) (r .length)) ++ groundAtoms υ (clauseOf k .atoms)) × Possible whole (r .constants) (atomsOf (trailOf (r .trail) (r .length)) ++ groundAtoms υ (clauseOf k .atoms)))) where
+          all : allFalse (s .trail) υ (D .literals) ≡ true
+          all = none-fails (passes false z (s .trail) υ) (D .literals) (sym number-is ∙ omega arith)
 
-            pub conflict-accepted : b ≡ true → (a : List ℕ) → a ≡ exactly mostVariables 0 υ
-                → Told s (Conflict c (exactly count 0 ι)) (record { run = record { constants = r .constants; input = r .input; learned = r .learned; level = r .level; length = r .length; stands = true; trail = r .trail; conflict = record { clause = k; instance = a } }; number = 0; place = 0 })
-            conflict-accepted h a q = given (accepted-as R y b says
-                (simp (short, free, exists-there R k c looks h₃, named h₄, all, h) (tt, (tt, (tt, (tt, (tt, tt))))))
-                _ (packed-as (next s y) (constants-is R) (input-is R) (learned-is R) (level-is R) refl (stored R) (λ i. record { clause = named-packed R k c looks h₃ i; instance = q i })))
+          says : T b ↔ Possible whole (s .constants) (question s y)
+          says = tested R k c looks there υ b fits d
+
+          pub conflict-impossible : b ≡ false → Told s (Conflict c (exactly count 0 ι)) (record { run = r; number = notPossible; place = 0 })
+          conflict-impossible h = given (refused-by R y b says notPossible tt tt (simp (short, free, named h₃, all, h)))
+
+          pub conflict-accepted : b ≡ true → (a : List ℕ) → a ≡ exactly mostVariables 0 υ
+              → Told s (Conflict c (exactly count 0 ι)) (record { run = record { constants = r .constants; input = r .input; learned = r .learned; level = r .level; length = r .length; stands = true; trail = r .trail; conflict = record { clause = k; instance = a } }; number = 0; place = 0 })
+          conflict-accepted h a q = given (accepted-as R y b says
+              (simp (short, free, named h₃, all, h) (tt, (tt, (tt, (tt, (tt, tt))))))
+              _ (packed-as (next s y) (constants-is R) (input-is R) (learned-is R) (level-is R) refl (stored R) (λ i. record { clause = named-packed R k c looks there i; instance = q i })))

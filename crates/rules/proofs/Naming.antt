@@ -19,6 +19,7 @@ use Rattle.basis.specs.declared.Literal.{Literal}
 use Rattle.lists.proofs.Arrays.{exactly-length, exactly-take, take-exactly}
 use Rattle.lists.specs.Arrays.{exactly}
 use Rattle.rules.specs.Answers.{RunOf, Told}
+use Rattle.rules.specs.Records.{withTrail}
 use Rattle.rules.specs.declared.Run.{Run}
 use Rattle.calculus.specs.Checks.{between}
 use Rattle.calculus.specs.Clauses.{groundAtoms, noLiteral}
@@ -86,6 +87,15 @@ module _ {r : Run} {s : State} (R : RunOf r s) (k : Clause) (c : ℕ) (looks : T
     pub named-proper : (τ : List ℕ) → instanceFits (s .constants) (clauseAt (clauses s) c) τ ≡ true → (a : Atom) → List·Memᴰ a (groundAtoms τ (clauseAt (clauses s) c .atoms)) → Proper (s .constants) a
     named-proper τ f = clause-proper (s .arities) (clauses s) (s .constants) (fine R .class) c τ named-there (subst T (sym f) tt)
 
+-- What the code asks of the clause that is named, and of that clause alone, the calculus asks.
+pub asked-is : {r : Run} {s : State} → RunOf r s → (k : Clause) (c : ℕ) → (T (clauseExists (clauses s) c) → k ≡ packed (clauseAt (clauses s) c)) → (P : ℕ → calculus.Clause → Bool)
+    → (between 1 (r .input + r .learned) c && P (r .constants) (clauseOf k)) ≡ (clauseExists (clauses s) c && P (s .constants) (clauseAt (clauses s) c))
+asked-is {r} {s} R k c looks P = go (between 1 (r .input + r .learned) c) refl
+  where
+    go : (b : Bool) → between 1 (r .input + r .learned) c ≡ b → (between 1 (r .input + r .learned) c && P (r .constants) (clauseOf k)) ≡ (clauseExists (clauses s) c && P (s .constants) (clauseAt (clauses s) c))
+    go true e = λ i. exists-is R k c looks i && P (constants-is R i) (named-says R k c looks e i)
+    go false e = ap (λ (b : Bool). b && P (r .constants) (clauseOf k)) e ∙ sym (ap (λ (b : Bool). b && P (s .constants) (clauseAt (clauses s) c)) (sym (exists-is R k c looks) ∙ e))
+
 pub trail-proper : {r : Run} {s : State} → RunOf r s → (a : Atom) → List·Memᴰ a (atomsOf (s .trail)) → Proper (s .constants) a
 trail-proper {s = s} R = fine-atoms (clauses s) (s .constants) (s .trail) (fine R .entries)
 
@@ -126,44 +136,47 @@ module _ {r : Run} {s : State} (R : RunOf r s) (k : Clause) (c l g : ℕ) (count
         free : stands (s .conflict) ≡ false
         free = sym (stands-is R) ∙ h₃
 
-        pub decide-no-clause : between 1 (r .input + r .learned) c ≡ false → Told s x (record { run = r; number = noSuch; place = 0 })
-        decide-no-clause h = refused R x noSuch tt tt (λ b. simp (same, short, sign, free, sym (exists-is R k c looks) ∙ h))
+        abbrev C : calculus.Clause
+        C = clauseAt (clauses s) c
 
-        module _ (h₄ : between 1 (r .input + r .learned) c ≡ true) where
-          abbrev C : calculus.Clause
-          C = clauseAt (clauses s) c
+        -- What the code asks of the numbers
+        abbrev Named : Bool
+        Named = between 1 (r .input + r .learned) c && (literalExists (clauseOf k) l && instanceFits (r .constants) (clauseOf k) τ)
 
-          named : {b : Bool} → (literalExists (clauseOf k) l && instanceFits (r .constants) (clauseOf k) τ) ≡ b → (literalExists C l && instanceFits (s .constants) C τ) ≡ b
-          named {b} h = subst (λ (n : ℕ). (literalExists C l && instanceFits n C τ) ≡ b) (constants-is R) (subst (λ (D : calculus.Clause). (literalExists D l && instanceFits (r .constants) D τ) ≡ b) (named-says R k c looks h₄) h)
+        named : {b : Bool} → Named ≡ b → (clauseExists (clauses s) c && (literalExists C l && instanceFits (s .constants) C τ)) ≡ b
+        named h = sym (asked-is R k c looks (λ n D. literalExists D l && instanceFits n D τ)) ∙ h
 
-          pub decide-no-such : (literalExists (clauseOf k) l && instanceFits (r .constants) (clauseOf k) τ) ≡ false → Told s x (record { run = r; number = noSuch; place = 0 })
-          decide-no-such h = refused R x noSuch tt tt (λ b. simp (same, short, sign, free, exists-there R k c looks h₄, named h))
+        pub decide-no-such : Named ≡ false → Told s x (record { run = r; number = noSuch; place = 0 })
+        decide-no-such h = refused R x noSuch tt tt (λ b. simp (same, short, sign, free, named h))
 
-          module _ (h₅ : (literalExists (clauseOf k) l && instanceFits (r .constants) (clauseOf k) τ) ≡ true) (m : Literal) (m-is : m ≡ decidedLiteral (clauseOf k) (l - 1) (isOne g) τ) where
-            literal-is : m ≡ decidedLiteral C (l - 1) (isOne g) τ
-            literal-is = m-is ∙ ap (λ (D : calculus.Clause). decidedLiteral D (l - 1) (isOne g) τ) (named-says R k c looks h₄)
+        module _ (h₄ : Named ≡ true) (m : Literal) (m-is : m ≡ decidedLiteral (clauseOf k) (l - 1) (isOne g) τ) where
+          there : between 1 (r .input + r .learned) c ≡ true
+          there = and-true (between 1 (r .input + r .learned) c) (literalExists (clauseOf k) l && instanceFits (r .constants) (clauseOf k) τ) h₄ .0
 
-            open-yet : {b : Bool} → undefined (trailOf (r .trail) (r .length)) m ≡ b → undefined (s .trail) (decidedLiteral C (l - 1) (isOne g) τ) ≡ b
-            open-yet {b} h = subst (λ (q : Literal). undefined (s .trail) q ≡ b) literal-is (subst (λ (t : Trail). undefined t m ≡ b) (stored R .says) h)
+          literal-is : m ≡ decidedLiteral C (l - 1) (isOne g) τ
+          literal-is = m-is ∙ ap (λ (D : calculus.Clause). decidedLiteral D (l - 1) (isOne g) τ) (named-says R k c looks there)
 
-            pub decide-defined : undefined (trailOf (r .trail) (r .length)) m ≡ false → Told s x (record { run = r; number = alreadyDefined; place = 0 })
-            decide-defined h = refused R x alreadyDefined tt tt (λ b. simp (same, short, sign, free, exists-there R k c looks h₄, named h₅, open-yet h))
+          open-yet : {b : Bool} → undefined (trailOf (r .trail) (r .length)) m ≡ b → undefined (s .trail) (decidedLiteral C (l - 1) (isOne g) τ) ≡ b
+          open-yet {b} h = subst (λ (q : Literal). undefined (s .trail) q ≡ b) literal-is (subst (λ (t : Trail). undefined t m ≡ b) (stored R .says) h)
 
-            module _ (h₆ : undefined (trailOf (r .trail) (r .length)) m ≡ true) (w : Grown) (grew : Grew w (foreground m (decided c l (isOne g) τ) ∷ trailOf (r .trail) (r .length))) where
-              abbrev t′ : Trail
-              t′ = foreground (decidedLiteral C (l - 1) (isOne g) τ) (decided c l (isOne g) τ) ∷ s .trail
+          pub decide-defined : undefined (trailOf (r .trail) (r .length)) m ≡ false → Told s x (record { run = r; number = alreadyDefined; place = 0 })
+          decide-defined h = refused R x alreadyDefined tt tt (λ b. simp (same, short, sign, free, named h₄, open-yet h))
 
-              grew-is : Grew w t′
-              grew-is = subst (λ (q : Literal). Grew w (foreground q (decided c l (isOne g) τ) ∷ s .trail)) literal-is (subst (λ (t : Trail). Grew w (foreground m (decided c l (isOne g) τ) ∷ t)) (stored R .says) grew)
+          module _ (h₅ : undefined (trailOf (r .trail) (r .length)) m ≡ true) (w : Grown) (grew : Grew w (foreground m (decided c l (isOne g) τ) ∷ trailOf (r .trail) (r .length))) where
+            abbrev t′ : Trail
+            t′ = foreground (decidedLiteral C (l - 1) (isOne g) τ) (decided c l (isOne g) τ) ∷ s .trail
 
-              pub decide-no-room : w .fits ≡ false → Told s x (record { run = r; number = noRoom; place = 0 })
-              decide-no-room h = refused R x noRoom tt tt (λ b. simp (same, short, sign, free, exists-there R k c looks h₄, named h₅, open-yet h₆, sym (grew-is .fits) ∙ h))
+            grew-is : Grew w t′
+            grew-is = subst (λ (q : Literal). Grew w (foreground q (decided c l (isOne g) τ) ∷ s .trail)) literal-is (subst (λ (t : Trail). Grew w (foreground m (decided c l (isOne g) τ) ∷ t)) (stored R .says) grew)
 
-              pub decide-accepted : w .fits ≡ true
-                  → Told s x (record { run = record { constants = r .constants; input = r .input; learned = r .learned; level = r .level + 1; length = w .length; stands = r .stands; trail = w .trail; conflict = r .conflict }; number = 0; place = 0 })
-              decide-accepted h = subst (λ (ρ : List ℕ). Told s (Decide c l g ρ) (record { run = record { constants = r .constants; input = r .input; learned = r .learned; level = r .level + 1; length = w .length; stands = r .stands; trail = w .trail; conflict = r .conflict }; number = 0; place = 0 })) (sym same)
-                  (accepted-as R (Decide c l g τ) true (nothing-asked s (Decide c l g τ) refl)
-                  (simp (short, sign, free, exists-there R k c looks h₄, named h₅, open-yet h₆, sym (grew-is .fits) ∙ h) (tt, (tt, (tt, (tt, (tt, (tt, tt)))))))
-                  _ (packed-as (next s (Decide c l g τ)) (constants-is R) (input-is R) (learned-is R) (omega (arith, level-is R)) h₃
-                  (subst (λ (b : Bool). Stored (w .trail) (w .length) (cond b t′ [])) h (grew-is .holds))
-                  (conflict-is R ∙ ap (λ (q : Option calculus.Instanced). packedInstanced (conflictOf q)) (no-conflict (s .conflict) free))))
+            pub decide-no-room : w .fits ≡ false → Told s x (record { run = r; number = noRoom; place = 0 })
+            decide-no-room h = refused R x noRoom tt tt (λ b. simp (same, short, sign, free, named h₄, open-yet h₅, sym (grew-is .fits) ∙ h))
+
+            pub decide-accepted : w .fits ≡ true
+                → Told s x (record { run = withTrail r w (r .level + 1); number = 0; place = 0 })
+            decide-accepted h = subst (λ (ρ : List ℕ). Told s (Decide c l g ρ) (record { run = withTrail r w (r .level + 1); number = 0; place = 0 })) (sym same)
+                (accepted-as R (Decide c l g τ) true (nothing-asked s (Decide c l g τ) refl)
+                (simp (short, sign, free, named h₄, open-yet h₅, sym (grew-is .fits) ∙ h) (tt, (tt, (tt, (tt, (tt, (tt, tt)))))))
+                _ (packed-as (next s (Decide c l g τ)) (constants-is R) (input-is R) (learned-is R) (omega (arith, level-is R)) h₃
+                (subst (λ (b : Bool). Stored (w .trail) (w .length) (cond b t′ [])) h (grew-is .holds))
+                (conflict-is R ∙ ap (λ (q : Option calculus.Instanced). packedInstanced (conflictOf q)) (no-conflict (s .conflict) free))))

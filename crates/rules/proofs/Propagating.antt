@@ -17,6 +17,7 @@ use Rattle.basis.specs.Refusals.{aboveLimit, alreadyDefined, noRoom, noSuch, no
 use Rattle.basis.specs.declared.Literal.{Literal}
 use Rattle.lists.specs.Arrays.{exactly}
 use Rattle.rules.specs.Answers.{RunOf, Told}
+use Rattle.rules.specs.Records.{withTrail}
 use Rattle.rules.specs.declared.Run.{Run}
 use Rattle.rules.specs.declared.Stepped.{Stepped}
 use Rattle.calculus.specs.Checks.{between}
@@ -25,7 +26,7 @@ use Rattle.calculus.specs.Rules.{clauseExists, instanceFits, literalExists, nex
 use Rattle.calculus.specs.States.{Propagate, State, Step, clauseAt, clauses, conflictOf, stands}
 use Rattle.calculus.specs.Trails.{Trail, atomsOf, propagated, undefined}
 use Rattle.clauses.specs.Records.{clauseOf, packed, packedInstanced}
-use Rattle.rules.proofs.Naming.{and-true, exists-is, exists-there, instance-is, instance-long, instance-short}
+use Rattle.rules.proofs.Naming.{and-true, asked-is, instance-is, instance-long, instance-short}
 use Rattle.rules.proofs.Runs.{conflict-is, constants-is, input-is, learned-is, level-is, no-conflict, packed-as, standing, stands-is}
 use Rattle.rules.proofs.Testing.{carry, not-zero, tested}
 use Rattle.rules.proofs.Told.{accepted-as, refused, refused-at, refused-by}
@@ -58,68 +59,74 @@ module _ {r : Run} {s : State} (R : RunOf r s) (k : Clause) (c l count : ℕ) (�
       free : stands (s .conflict) ≡ false
       free = sym (stands-is R) ∙ h₂
 
-      pub propagate-no-clause : between 1 (r .input + r .learned) c ≡ false → Told s (Propagate c l (exactly count 0 ι)) (record { run = r; number = noSuch; place = 0 })
-      propagate-no-clause h = given (refused R x noSuch tt tt (λ b. simp (short, free, sym (exists-is R k c looks) ∙ h)))
+      abbrev C : calculus.Clause
+      C = clauseAt (clauses s) c
 
-      module _ (h₃ : between 1 (r .input + r .learned) c ≡ true) where
-        abbrev C : calculus.Clause
-        C = clauseAt (clauses s) c
+      abbrev g : Literal
+      g = ground τ (getD (C .literals) (l - 1) noLiteral)
 
-        abbrev g : Literal
-        g = ground τ (getD (C .literals) (l - 1) noLiteral)
+      -- What the code asks of the numbers
+      abbrev Named : Bool
+      Named = between 1 (r .input + r .learned) c && (literalExists (clauseOf k) l && instanceFits (r .constants) (clauseOf k) τ)
 
-        named : {b : Bool} → (literalExists (clauseOf k) l && instanceFits (r .constants) (clauseOf k) τ) ≡ b → (literalExists C l && instanceFits (s .constants) C τ) ≡ b
-        named {b} h = subst (λ (n : ℕ). (literalExists C l && instanceFits n C τ) ≡ b) (constants-is R) (carry R k c looks h₃ (λ D t. (literalExists D l && instanceFits (r .constants) D τ) ≡ b) h)
+      named : {b : Bool} → Named ≡ b → (clauseExists (clauses s) c && (literalExists C l && instanceFits (s .constants) C τ)) ≡ b
+      named h = sym (asked-is R k c looks (λ n D. literalExists D l && instanceFits n D τ)) ∙ h
 
-        pub propagate-no-such : (literalExists (clauseOf k) l && instanceFits (r .constants) (clauseOf k) τ) ≡ false → Told s (Propagate c l (exactly count 0 ι)) (record { run = r; number = noSuch; place = 0 })
-        propagate-no-such h = given (refused R x noSuch tt tt (λ b. simp (short, free, exists-there R k c looks h₃, named h)))
+      pub propagate-no-such : Named ≡ false → Told s (Propagate c l (exactly count 0 ι)) (record { run = r; number = noSuch; place = 0 })
+      propagate-no-such h = given (refused R x noSuch tt tt (λ b. simp (short, free, named h)))
 
-        module _ (h₄ : (literalExists (clauseOf k) l && instanceFits (r .constants) (clauseOf k) τ) ≡ true) (m : Literal) (m-is : m ≡ ground τ (getD (clauseOf k .literals) (l - 1) noLiteral)) where
-          own : m ≡ g
-          own = carry R k c looks h₃ (λ D t. m ≡ ground τ (getD (D .literals) (l - 1) noLiteral)) m-is
+      module _ (h₃ : Named ≡ true) (m : Literal) (m-is : m ≡ ground τ (getD (clauseOf k .literals) (l - 1) noLiteral)) where
+        there : between 1 (r .input + r .learned) c ≡ true
+        there = and-true (between 1 (r .input + r .learned) c) (literalExists (clauseOf k) l && instanceFits (r .constants) (clauseOf k) τ) h₃ .0
 
-          open-yet : {b : Bool} → undefined (trailOf (r .trail) (r .length)) m ≡ b → undefined (s .trail) g ≡ b
-          open-yet {b} h = subst (λ (q : Literal). undefined (s .trail) q ≡ b) own (carry R k c looks h₃ (λ D t. undefined t m ≡ b) h)
+        fits : instanceFits (s .constants) C τ ≡ true
+        fits = and-true (literalExists C l) (instanceFits (s .constants) C τ) (and-true (clauseExists (clauses s) c) (literalExists C l && instanceFits (s .constants) C τ) (named h₃) .1) .1
 
-          pub propagate-defined : undefined (trailOf (r .trail) (r .length)) m ≡ false → Told s (Propagate c l (exactly count 0 ι)) (record { run = r; number = alreadyDefined; place = 0 })
-          propagate-defined h = given (refused R x alreadyDefined tt tt (λ b. simp (short, free, exists-there R k c looks h₃, named h₄, open-yet h)))
+        own : m ≡ g
+        own = carry R k c looks there (λ D t. m ≡ ground τ (getD (D .literals) (l - 1) noLiteral)) m-is
 
-          module _ (h₅ : undefined (trailOf (r .trail) (r .length)) m ≡ true) (p : ℕ) (p-is : p ≡ firstNumber (passes true m (trailOf (r .trail) (r .length)) τ) (clauseOf k .literals)) where
-            number-is : p ≡ firstNumber (passes true g (s .trail) τ) (C .literals)
-            number-is = subst (λ (q : Literal). p ≡ firstNumber (passes true q (s .trail) τ) (C .literals)) own (carry R k c looks h₃ (λ D t. p ≡ firstNumber (passes true m t τ) (D .literals)) p-is)
+        open-yet : {b : Bool} → undefined (trailOf (r .trail) (r .length)) m ≡ b → undefined (s .trail) g ≡ b
+        open-yet {b} h = subst (λ (q : Literal). undefined (s .trail) q ≡ b) own (carry R k c looks there (λ D t. undefined t m ≡ b) h)
 
-            some-not : 0 < p → ¬ (firstNumber (passes true g (s .trail) τ) (C .literals) ≡ 0)
-            some-not h z = not-zero h (number-is ∙ z)
+        pub propagate-defined : undefined (trailOf (r .trail) (r .length)) m ≡ false → Told s (Propagate c l (exactly count 0 ι)) (record { run = r; number = alreadyDefined; place = 0 })
+        propagate-defined h = given (refused R x alreadyDefined tt tt (λ b. simp (short, free, named h₃, open-yet h)))
 
-            pub propagate-not-false : 0 < p → Told s (Propagate c l (exactly count 0 ι)) (record { run = r; number = notFalse; place = p })
-            propagate-not-false h = given (refused-at R x p (number-is ∙ sym (its-number (passes true g (s .trail) τ) (C .literals) (some-not h)))
-                (λ b. simp (short, free, exists-there R k c looks h₃, named h₄, open-yet h₅, one-fails (passes true g (s .trail) τ) (C .literals) (some-not h))))
+        module _ (h₄ : undefined (trailOf (r .trail) (r .length)) m ≡ true) (p : ℕ) (p-is : p ≡ firstNumber (passes true m (trailOf (r .trail) (r .length)) τ) (clauseOf k .literals)) where
+          number-is : p ≡ firstNumber (passes true g (s .trail) τ) (C .literals)
+          number-is = subst (λ (q : Literal). p ≡ firstNumber (passes true q (s .trail) τ) (C .literals)) own (carry R k c looks there (λ D t. p ≡ firstNumber (passes true m t τ) (D .literals)) p-is)
 
-            module _ (h₆ : p ≤ 0) (b : Bool)
-                (d : T b ↔ (Testable (r .constants) (atomsOf (trailOf (r .trail) (r .length)) ++ groundAtoms τ (clauseOf k .atoms)) × Possible whole (r .constants) (atomsOf (trailOf (r .trail) (r .length)) ++ groundAtoms τ (clauseOf k .atoms)))) where
-              others : othersFalse (s .trail) τ g (C .literals) ≡ true
-              others = none-fails (passes true g (s .trail) τ) (C .literals) (sym number-is ∙ omega arith)
+          some-not : 0 < p → ¬ (firstNumber (passes true g (s .trail) τ) (C .literals) ≡ 0)
+          some-not h z = not-zero h (number-is ∙ z)
 
-              says : T b ↔ Possible whole (s .constants) (question s x)
-              says = tested R k c looks h₃ τ b (and-true (literalExists C l) (instanceFits (s .constants) C τ) (named h₄) .1) d
+          pub propagate-not-false : 0 < p → Told s (Propagate c l (exactly count 0 ι)) (record { run = r; number = notFalse; place = p })
+          propagate-not-false h = given (refused-at R x p (number-is ∙ sym (its-number (passes true g (s .trail) τ) (C .literals) (some-not h)))
+              (λ b. simp (short, free, named h₃, open-yet h₄, one-fails (passes true g (s .trail) τ) (C .literals) (some-not h))))
 
-              pub propagate-impossible : b ≡ false → Told s (Propagate c l (exactly count 0 ι)) (record { run = r; number = notPossible; place = 0 })
-              propagate-impossible h = given (refused-by R x b says notPossible tt tt (simp (short, free, exists-there R k c looks h₃, named h₄, open-yet h₅, others, h)))
+          module _ (h₅ : p ≤ 0) (b : Bool)
+              (d : T b ↔ (Testable (r .constants) (atomsOf (trailOf (r .trail) (r .length)) ++ groundAtoms τ (clauseOf k .atoms)) × Possible whole (r .constants) (atomsOf (trailOf (r .trail) (r .length)) ++ groundAtoms τ (clauseOf k .atoms)))) where
+            others : othersFalse (s .trail) τ g (C .literals) ≡ true
+            others = none-fails (passes true g (s .trail) τ) (C .literals) (sym number-is ∙ omega arith)
 
-              module _ (h₇ : b ≡ true) (w : Grown) (grew : Grew w (propagatedTrail (clauseOf k) (l - 1) τ (propagated c l τ) (trailOf (r .trail) (r .length)))) where
-                abbrev t′ : Trail
-                t′ = propagatedTrail C (l - 1) τ (propagated c l τ) (s .trail)
+            says : T b ↔ Possible whole (s .constants) (question s x)
+            says = tested R k c looks there τ b fits d
 
-                grew-is : Grew w t′
-                grew-is = carry R k c looks h₃ (λ D t. Grew w (propagatedTrail D (l - 1) τ (propagated c l τ) t)) grew
+            pub propagate-impossible : b ≡ false → Told s (Propagate c l (exactly count 0 ι)) (record { run = r; number = notPossible; place = 0 })
+            propagate-impossible h = given (refused-by R x b says notPossible tt tt (simp (short, free, named h₃, open-yet h₄, others, h)))
 
-                pub propagate-no-room : w .fits ≡ false → Told s (Propagate c l (exactly count 0 ι)) (record { run = r; number = noRoom; place = 0 })
-                propagate-no-room h = given (refused-by R x b says noRoom tt tt (simp (short, free, exists-there R k c looks h₃, named h₄, open-yet h₅, others, h₇, sym (grew-is .fits) ∙ h)))
+            module _ (h₆ : b ≡ true) (w : Grown) (grew : Grew w (propagatedTrail (clauseOf k) (l - 1) τ (propagated c l τ) (trailOf (r .trail) (r .length)))) where
+              abbrev t′ : Trail
+              t′ = propagatedTrail C (l - 1) τ (propagated c l τ) (s .trail)
 
-                pub propagate-accepted : w .fits ≡ true
-                    → Told s (Propagate c l (exactly count 0 ι)) (record { run = record { constants = r .constants; input = r .input; learned = r .learned; level = r .level; length = w .length; stands = r .stands; trail = w .trail; conflict = r .conflict }; number = 0; place = 0 })
-                propagate-accepted h = given (accepted-as R x b says
-                    (simp (short, free, exists-there R k c looks h₃, named h₄, open-yet h₅, others, h₇, sym (grew-is .fits) ∙ h) (tt, (tt, (tt, (tt, (tt, (tt, (tt, tt))))))))
-                    _ (packed-as (next s x) (constants-is R) (input-is R) (learned-is R) (level-is R) h₂
-                    (subst (λ (q : Bool). Stored (w .trail) (w .length) (cond q t′ [])) h (grew-is .holds))
-                    (conflict-is R ∙ ap (λ (q : Option calculus.Instanced). packedInstanced (conflictOf q)) (no-conflict (s .conflict) free))))
+              grew-is : Grew w t′
+              grew-is = carry R k c looks there (λ D t. Grew w (propagatedTrail D (l - 1) τ (propagated c l τ) t)) grew
+
+              pub propagate-no-room : w .fits ≡ false → Told s (Propagate c l (exactly count 0 ι)) (record { run = r; number = noRoom; place = 0 })
+              propagate-no-room h = given (refused-by R x b says noRoom tt tt (simp (short, free, named h₃, open-yet h₄, others, h₆, sym (grew-is .fits) ∙ h)))
+
+              pub propagate-accepted : w .fits ≡ true
+                  → Told s (Propagate c l (exactly count 0 ι)) (record { run = withTrail r w (r .level); number = 0; place = 0 })
+              propagate-accepted h = given (accepted-as R x b says
+                  (simp (short, free, named h₃, open-yet h₄, others, h₆, sym (grew-is .fits) ∙ h) (tt, (tt, (tt, (tt, (tt, (tt, (tt, tt))))))))
+                  _ (packed-as (next s x) (constants-is R) (input-is R) (learned-is R) (level-is R) h₂
+                  (subst (λ (q : Bool). Stored (w .trail) (w .length) (cond q t′ [])) h (grew-is .holds))
+                  (conflict-is R ∙ ap (λ (q : Option calculus.Instanced). packedInstanced (conflictOf q)) (no-conflict (s .conflict) free))))

@@ -16,7 +16,7 @@ use Rattle.calculus.proofs.Levels.{clause-held}
 use Rattle.calculus.specs.Class.{Limited, withinLimits}
 use Rattle.calculus.specs.Rules.{clauseExists}
 use Rattle.calculus.specs.States.{State, clauseAt, clauses, conflictOf, stands, updated}
-use Rattle.calculus.specs.Trails.{Entry, Trail, decisions, isDecision}
+use Rattle.calculus.specs.Trails.{Entry, Trail}
 use Rattle.clauses.proofs.Records.{packed-instanced-says, packed-says}
 use Rattle.clauses.specs.Records.{clauseOf, instancedOf, packed, packedInstanced}
 use Rattle.clauses.specs.declared.Clause.{Clause}
@@ -114,13 +114,6 @@ kept-small {r} (s, R) = record {
   trail-held = stored-held (stored R);
   slots = ap length (stored R .packed) ∙ packed-length (s .trail);
 }
-
--- A decision that can be skipped has been counted.
-pub decision-counted : {r : Run} {s : State} → RunOf r s → (e : Entry) (t : Trail) → s .trail ≡ e ∷ t → isDecision e ≡ true → 1 ≤ r .level
-decision-counted {r} {s} R e t h d = omega (arith, level-is R, fine R .level, ap decisions h, counted)
-  where
-    counted : 1 ≤ decisions (e ∷ t)
-    counted = rw d (omega arith)
 
 -- ---- the last entry
 

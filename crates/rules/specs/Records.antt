@@ -1,15 +1,17 @@
 -- Run records, answers and step records as the calculus's states, answers and steps.
 use mathlib.Core.List.{List}
 use mathlib.Core.Bool.{Bool, true, false, cond}
-use Prim.Native.Nat.{ℕ}
+use Prim.Native.Nat.{ℕ, _+_}
 use lib.Dec.{eqb}
 use lib.ListN.{length}
 use Rattle.lists.specs.Arrays.{exactly}
+use Rattle.calculus.specs.Clauses.{noInstanced}
 use Rattle.calculus.specs.States as calculus
 use Rattle.calculus.specs.States.{State, conflictOf}
 use Rattle.calculus.specs.Rules.{Answer}
 use Rattle.clauses.specs.Records.{packedInstanced}
 use Rattle.trail.specs.Entries.{packedTrail}
+use Rattle.trail.specs.declared.Grown.{Grown}
 use Rattle.trail.specs.declared.Kind.{Kind}
 use Rattle.trail.specs.declared.Kind.the-variants.{Background, Propagated, Decided}
 use Rattle.rules.specs.declared.Run.{Run}
@@ -31,6 +33,32 @@ packedRun s = record {
 
 abbrev pub packedAnswer : Answer → Stepped
 packedAnswer a = record { run = packedRun (a .state); number = a .number; place = a .place }
+
+-- The run with its trail grown, at level k
+abbrev pub withTrail : Run → Grown → ℕ → Run
+withTrail r w k = record {
+  constants = r .constants;
+  input = r .input;
+  learned = r .learned;
+  level = k;
+  length = w .length;
+  stands = r .stands;
+  trail = w .trail;
+  conflict = r .conflict;
+}
+
+-- .. and with one clause more learned, no conflict standing
+abbrev pub learnt : Run → Grown → ℕ → Run
+learnt r w i = record {
+  constants = r .constants;
+  input = r .input;
+  learned = r .learned + 1;
+  level = i;
+  length = w .length;
+  stands = false;
+  trail = w .trail;
+  conflict = packedInstanced noInstanced;
+}
 
 -- An entry of this kind is a propagated literal.
 abbrev pub isPropagated : Kind → Bool

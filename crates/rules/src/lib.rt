@@ -1,29 +1,26 @@
 // The run state and its rules, each a method by value that returns the next run state with the answer. A rule is handed the one clause that
 // it looks at; it changes no other.
 ghost use mathlib.Core.Path.{_≡_};
-ghost use mathlib.Core.Logic.{_↔_};
-ghost use mathlib.Core.List.{[], _∷_, _++_};
-ghost use mathlib.Core.Bool.{Bool, _&&_, not, cond};
-ghost use Prim.Native.Nat.{suc, _+_, _-_, _≤_};
-ghost use lib.Dec.{T, eqb};
-ghost use lib.ListN.{length, getD, take};
+ghost use mathlib.Core.List.{[], _∷_};
+ghost use mathlib.Core.Bool.{_&&_, cond, not};
+ghost use Prim.Native.Nat.{_+_, _-_, _≤_, _<_};
+ghost use lib.Dec.{eqb};
+ghost use lib.ListN.{length, take};
 ghost use Rattle.basis.specs.Limits.{mostVariables, mostInput, mostLearned};
-ghost use Rattle.basis.specs.Numbers.{whole};
-ghost use Rattle.basis.specs.Atoms.{Possible};
+ghost use Rattle.basis.specs.Refusals as refusals;
+ghost use Rattle.basis.specs.Refusals.{notFalse};
 ghost use Rattle.lists.specs.Arrays.{exactly};
 ghost use Rattle.lists.specs.Lists.{anyOf};
 ghost use Rattle.calculus.specs.Checks.{between};
-ghost use Rattle.calculus.specs.Clauses.{noLiteral, sameLiteral, groundAtoms};
+ghost use Rattle.calculus.specs.Clauses.{sameLiteral};
 ghost use Rattle.calculus.specs.Clauses as calculus;
-ghost use Rattle.calculus.specs.Rules.{literalExists, instanceFits, literalInstance, decidedLiteral, isOne, complementInConflict, propagatedTrail, otherInstances, backLevel, withoutLast};
+ghost use Rattle.calculus.specs.Rules.{literalExists, instanceFits, literalInstance, decidedLiteral, complementInConflict, otherInstances};
 ghost use Rattle.calculus.specs.States.{Propagate, Decide, Conflict, Resolve, Factorize, Skip, Backtrack, Grow};
-ghost use Rattle.calculus.specs.Trails.{onTrail, atomOnTrail, isLiteral, isAtom, isDecision, levelOf, largestLevel, atomsOf, foreground, background, propagated, decided};
-ghost use Rattle.calculus.specs.Trails as trails;
+ghost use Rattle.calculus.specs.Trails.{isDecision};
 ghost use Rattle.clauses.specs.Records.{clauseOf, instancedOf};
-ghost use Rattle.trail.specs.Entries.{entryOf, trailOf, Stored, Held};
-ghost use Rattle.trail.specs.Answers.{passes, firstNumber, packedInstances, Grew, Testable};
+ghost use Rattle.trail.specs.Entries.{entryOf};
 ghost use Rattle.merging.specs.Results.{resolved, reasonOf};
-ghost use Rattle.rules.specs.Records.{stepOf, isPropagated};
+ghost use Rattle.rules.specs.Records.{stepOf, isPropagated, withTrail, learnt};
 ghost use Rattle.rules.specs.Answers.{Kept, Handed, Answers, Answered};
 use basis::ABOVE_LIMIT;
 use basis::ALREADY_DEFINED;
@@ -52,6 +49,7 @@ use clauses::same_literal;
 use merging::Merged;
 use merging::reason_of;
 use trail::Entry;
+use trail::Grown;
 use trail::Instances;
 use trail::Kind;
 use trail::append_propagated;
@@ -146,15 +144,29 @@ fn instance_fits(constants: u8, c: Clause, instance: [u8; 12], count: u8) -> boo
     true
 }
 
-// A literal of the clause, and an instance for it
-fn literal_named(constants: u8, c: Clause, l: u8, instance: [u8; 12], count: u8) -> bool
-    requires { ⌜ count ≤ mostVariables ⌝ }
-    ensures { λ r. ⌜ r ≡ (literalExists (clauseOf c) l && instanceFits constants (clauseOf c) (take count instance)) ⌝ }
+// A clause, and an instance for it
+fn instance_named(run: Run, c: u8, clause: Clause, instance: [u8; 12], count: u8) -> bool
+    requires { ⌜ (run .input ≤ mostInput) × (run .learned ≤ mostLearned) × (count ≤ mostVariables) ⌝ }
+    ensures { λ r. ⌜ r ≡ (between 1 (run .input + run .learned) c && instanceFits (run .constants) (clauseOf clause) (take count instance)) ⌝ }
 {
-    if literal_exists(c, l) {
-        return instance_fits(constants, c, instance, count);
+    if !clause_exists(run.input, run.learned, c) {
+        return false;
     }
-    false
+    instance_fits(run.constants, clause, instance, count)
+}
+
+// .. and a literal of it
+fn literal_named(run: Run, c: u8, clause: Clause, l: u8, instance: [u8; 12], count: u8) -> bool
+    requires { ⌜ (run .input ≤ mostInput) × (run .learned ≤ mostLearned) × (count ≤ mostVariables) ⌝ }
+    ensures { λ r. ⌜ r ≡ (between 1 (run .input + run .learned) c && (literalExists (clauseOf clause) l && instanceFits (run .constants) (clauseOf clause) (take count instance))) ⌝ }
+{
+    if !clause_exists(run.input, run.learned, c) {
+        return false;
+    }
+    if !literal_exists(clause, l) {
+        return false;
+    }
+    instance_fits(run.constants, clause, instance, count)
 }
 
 // Two different literals of the conflict
@@ -264,6 +276,19 @@ fn in_conflict(n: Instanced, e: Entry) -> bool
     }
 }
 
+// "A decision skipped lowers k by one."
+fn level_after(e: Entry, k: u8) -> u8
+    ensures { λ r. ⌜ r ≡ cond (isDecision (entryOf e)) (k - 1) k ⌝ }
+{
+    if !is_decision(e) {
+        return k;
+    }
+    if k == 0 {
+        return 0;
+    }
+    k - 1
+}
+
 // How many there are, and that the array is whole
 fn count_of(d: Instances) -> usize
     ensures { λ r. ⌜ (r ≡ d .count) × (length (d .at) ≡ 8) ⌝ }
@@ -309,6 +334,66 @@ fn resolvent(n: Instanced, l: u8, e: Entry, clause: Clause) -> Merged
     merging::resolve(n, place_of(l), of, reason.own)
 }
 
+// ---- answers
+
+// Refused: the run is handed back as it was.
+fn refused(run: Run, number: u8) -> Stepped
+    ensures { λ a. ⌜ a ≡ record { run = run; number = number; place = 0 } ⌝ }
+{
+    Stepped {
+        run: run,
+        number: number,
+        place: 0,
+    }
+}
+
+// Refused by 12, which names a literal
+fn refused_at(run: Run, place: u8) -> Stepped
+    ensures { λ a. ⌜ a ≡ record { run = run; number = notFalse; place = place } ⌝ }
+{
+    Stepped {
+        run: run,
+        number: NOT_FALSE,
+        place: place,
+    }
+}
+
+// Accepted, with the next run
+fn accepted(run: Run) -> Stepped
+    ensures { λ a. ⌜ a ≡ record { run = run; number = refusals.accepted; place = 0 } ⌝ }
+{
+    Stepped {
+        run: run,
+        number: 0,
+        place: 0,
+    }
+}
+
+// The run with its trail grown, at level k
+fn with_trail(run: Run, grown: Grown, k: u8) -> Run
+    ensures { λ r. ⌜ r ≡ withTrail run grown k ⌝ }
+{
+    let trail = grown.trail;
+    let mut next = run;
+    next.level = k;
+    next.length = grown.length;
+    next.trail = trail;
+    next
+}
+
+// "The conflict is learned; .. k is i, no conflict."
+fn learning(run: Run, grown: Grown, i: u8) -> Run
+    requires { ⌜ run .learned < mostLearned ⌝ }
+    ensures { λ r. ⌜ r ≡ learnt run grown i ⌝ }
+{
+    let blank = no_instanced();
+    let mut next = with_trail(run, grown, i);
+    next.learned = run.learned + 1;
+    next.stands = false;
+    next.conflict = blank;
+    next
+}
+
 // ---- the rules
 
 impl Run {
@@ -318,25 +403,13 @@ impl Run {
         ensures { λ a. ⌜ Answers self (Grow amount) a ⌝ }
     {
         if self.stands {
-            return Stepped {
-                run: self,
-                number: WRONG_MOMENT,
-                place: 0,
-            };
+            return refused(self, WRONG_MOMENT);
         }
         if amount < 1 {
-            return Stepped {
-                run: self,
-                number: NO_SUCH,
-                place: 0,
-            };
+            return refused(self, NO_SUCH);
         }
         if MOST_CONSTANTS - (self.constants as usize) < amount as usize {
-            return Stepped {
-                run: self,
-                number: NO_ROOM,
-                place: 0,
-            };
+            return refused(self, NO_ROOM);
         }
         let blank = empty_trail();
         let mut next = self;
@@ -344,11 +417,7 @@ impl Run {
         next.level = 0;
         next.length = 0;
         next.trail = blank;
-        Stepped {
-            run: next,
-            number: 0,
-            place: 0,
-        }
+        accepted(next)
     }
 
     // "6 Skip. The last entry goes, if it is an atom or if its complement is not in the conflict. A decision skipped lowers k by one."
@@ -357,43 +426,26 @@ impl Run {
         ensures { λ a. ⌜ Answers self Skip a ⌝ }
     {
         if !self.stands {
-            return Stepped {
-                run: self,
-                number: WRONG_MOMENT,
-                place: 0,
-            };
+            return refused(self, WRONG_MOMENT);
         }
         let length = self.length;
         if length < 1 {
-            return Stepped {
-                run: self,
-                number: NO_ENTRY,
-                place: 0,
-            };
+            return refused(self, NO_ENTRY);
         }
         let k = length as usize - 1;
         let e = self.trail[k];
         let n = self.conflict;
         if in_conflict(n, e) {
-            return Stepped {
-                run: self,
-                number: WRONG_LITERAL,
-                place: 0,
-            };
+            return refused(self, WRONG_LITERAL);
         }
         let trail = self.trail;
         let shorter = drop_last(trail, length);
+        let level = level_after(e, self.level);
         let mut next = self;
+        next.level = level;
         next.length = length - 1;
         next.trail = shorter;
-        if is_decision(e) {
-            next.level = self.level - 1;
-        }
-        Stepped {
-            run: next,
-            number: 0,
-            place: 0,
-        }
+        accepted(next)
     }
 
     // "5 Factorize (two different literals with the same instance). Their variables are merged; the one with the larger number goes."
@@ -402,36 +454,20 @@ impl Run {
         ensures { λ a. ⌜ Answers self (Factorize i j) a ⌝ }
     {
         if !self.stands {
-            return Stepped {
-                run: self,
-                number: WRONG_MOMENT,
-                place: 0,
-            };
+            return refused(self, WRONG_MOMENT);
         }
         let n = self.conflict;
         if !two_literals(n, i, j) {
-            return Stepped {
-                run: self,
-                number: NO_SUCH,
-                place: 0,
-            };
+            return refused(self, NO_SUCH);
         }
         if !same_instance(n, i, j) {
-            return Stepped {
-                run: self,
-                number: WRONG_LITERAL,
-                place: 0,
-            };
+            return refused(self, WRONG_LITERAL);
         }
         let merged = merging::factorize(n, place_of(i), place_of(j));
         let of = merged.of;
         let mut next = self;
         next.conflict = of;
-        Stepped {
-            run: next,
-            number: 0,
-            place: 0,
-        }
+        accepted(next)
     }
 
     // "4 Resolve (literal L'). The last entry is a propagated literal, the complement of L'." It is handed the last entry's clause, from
@@ -441,61 +477,34 @@ impl Run {
         ensures { λ a. ⌜ Answered self clause (Resolve l) a ⌝ }
     {
         if !self.stands {
-            return Stepped {
-                run: self,
-                number: WRONG_MOMENT,
-                place: 0,
-            };
+            return refused(self, WRONG_MOMENT);
         }
         let n = self.conflict;
         let c = n.clause;
         if !literal_exists(c, l) {
-            return Stepped {
-                run: self,
-                number: NO_SUCH,
-                place: 0,
-            };
+            return refused(self, NO_SUCH);
         }
         let length = self.length;
         if length < 1 {
-            return Stepped {
-                run: self,
-                number: NO_ENTRY,
-                place: 0,
-            };
+            return refused(self, NO_ENTRY);
         }
-        let k = length as usize - 1;
+        let last = length - 1;
+        let k = last as usize;
         let e = self.trail[k];
         if !is_propagated(e) {
-            return Stepped {
-                run: self,
-                number: NO_ENTRY,
-                place: 0,
-            };
+            return refused(self, NO_ENTRY);
         }
         if !is_complement(e, n, l) {
-            return Stepped {
-                run: self,
-                number: WRONG_LITERAL,
-                place: 0,
-            };
+            return refused(self, WRONG_LITERAL);
         }
         let merged = resolvent(n, l, e, clause);
         if !merged.fits {
-            return Stepped {
-                run: self,
-                number: NO_ROOM,
-                place: 0,
-            };
+            return refused(self, NO_ROOM);
         }
-        let of = merged.of;
+        let resolved = merged.of;
         let mut next = self;
-        next.conflict = of;
-        Stepped {
-            run: next,
-            number: 0,
-            place: 0,
-        }
+        next.conflict = resolved;
+        accepted(next)
     }
 
     // "2 Decide (clause, literal, sign, instance). No conflict. The atom of the literal, with the sign given, is undefined. It is appended, k
@@ -513,69 +522,30 @@ impl Run {
         ensures { λ a. ⌜ Answered self clause (Decide c l sign (exactly count 0 instance)) a ⌝ }
     {
         if MOST_VARIABLES < count as usize {
-            return Stepped {
-                run: self,
-                number: ABOVE_LIMIT,
-                place: 0,
-            };
+            return refused(self, ABOVE_LIMIT);
         }
         if 1 < sign {
-            return Stepped {
-                run: self,
-                number: OUT_OF_RANGE,
-                place: 0,
-            };
+            return refused(self, OUT_OF_RANGE);
         }
         if self.stands {
-            return Stepped {
-                run: self,
-                number: WRONG_MOMENT,
-                place: 0,
-            };
+            return refused(self, WRONG_MOMENT);
         }
-        if !clause_exists(self.input, self.learned, c) {
-            return Stepped {
-                run: self,
-                number: NO_SUCH,
-                place: 0,
-            };
-        }
-        if !literal_named(self.constants, clause, l, instance, count) {
-            return Stepped {
-                run: self,
-                number: NO_SUCH,
-                place: 0,
-            };
+        if !literal_named(self, c, clause, l, instance, count) {
+            return refused(self, NO_SUCH);
         }
         let positive = sign == 1;
         let g = decided_literal(clause, l, positive, instance, count);
         let trail = self.trail;
         let length = self.length;
         if !undefined(trail, length, g) {
-            return Stepped {
-                run: self,
-                number: ALREADY_DEFINED,
-                place: 0,
-            };
+            return refused(self, ALREADY_DEFINED);
         }
         let grown = push_decided(trail, length, g, c, l, positive, instance, count);
         if !grown.fits {
-            return Stepped {
-                run: self,
-                number: NO_ROOM,
-                place: 0,
-            };
+            return refused(self, NO_ROOM);
         }
-        let longer = grown.trail;
-        let mut next = self;
-        next.level = self.level + 1;
-        next.length = grown.length;
-        next.trail = longer;
-        Stepped {
-            run: next,
-            number: 0,
-            place: 0,
-        }
+        let next = with_trail(self, grown, self.level + 1);
+        accepted(next)
     }
 
     // "3 Conflict (clause, instance). No conflict. All literals false; trail and clause atoms together possible. The clause becomes the
@@ -585,50 +555,14 @@ impl Run {
         ensures { λ a. ⌜ Answered self clause (Conflict c (exactly count 0 instance)) a ⌝ }
     {
         if MOST_VARIABLES < count as usize {
-            return Stepped {
-                run: self,
-                number: ABOVE_LIMIT,
-                place: 0,
-            };
+            return refused(self, ABOVE_LIMIT);
         }
         if self.stands {
-            return Stepped {
-                run: self,
-                number: WRONG_MOMENT,
-                place: 0,
-            };
+            return refused(self, WRONG_MOMENT);
         }
-        if !clause_exists(self.input, self.learned, c) {
-            return Stepped {
-                run: self,
-                number: NO_SUCH,
-                place: 0,
-            };
-        }
-        if !instance_fits(self.constants, clause, instance, count) {
-            return Stepped {
-                run: self,
-                number: NO_SUCH,
-                place: 0,
-            };
-        }
-        let trail = self.trail;
-        let length = self.length;
-        let none = no_literal();
-        let place = first_not_false(trail, length, clause, instance, count, false, none);
-        if 0 < place {
-            return Stepped {
-                run: self,
-                number: NOT_FALSE,
-                place: place,
-            };
-        }
-        if !possible(self.constants, trail, length, clause, instance, count) {
-            return Stepped {
-                run: self,
-                number: NOT_POSSIBLE,
-                place: 0,
-            };
+        let fits = instance_named(self, c, clause, instance, count);
+        if !fits {
+            return refused(self, NO_SUCH);
         }
         let constants = first_constants(instance, count);
         let of = Instanced {
@@ -638,11 +572,18 @@ impl Run {
         let mut next = self;
         next.stands = true;
         next.conflict = of;
-        Stepped {
-            run: next,
-            number: 0,
-            place: 0,
+        let trail = self.trail;
+        let length = self.length;
+        let none = no_literal();
+        let first = first_not_false(trail, length, clause, instance, count, false, none);
+        if 0 < first {
+            return refused_at(self, first);
         }
+        let together = possible(self.constants, trail, length, clause, instance, count);
+        if !together {
+            return refused(self, NOT_POSSIBLE);
+        }
+        accepted(next)
     }
 
     // "1 Propagate (clause, literal L, instance). No conflict. L's instance is undefined; every literal with another instance is false; trail
@@ -652,75 +593,35 @@ impl Run {
         ensures { λ a. ⌜ Answered self clause (Propagate c l (exactly count 0 instance)) a ⌝ }
     {
         if MOST_VARIABLES < count as usize {
-            return Stepped {
-                run: self,
-                number: ABOVE_LIMIT,
-                place: 0,
-            };
+            return refused(self, ABOVE_LIMIT);
         }
         if self.stands {
-            return Stepped {
-                run: self,
-                number: WRONG_MOMENT,
-                place: 0,
-            };
+            return refused(self, WRONG_MOMENT);
         }
-        if !clause_exists(self.input, self.learned, c) {
-            return Stepped {
-                run: self,
-                number: NO_SUCH,
-                place: 0,
-            };
-        }
-        if !literal_named(self.constants, clause, l, instance, count) {
-            return Stepped {
-                run: self,
-                number: NO_SUCH,
-                place: 0,
-            };
-        }
-        let g = literal_instance(clause, l, instance, count);
-        let trail = self.trail;
+        let held = self.trail;
         let length = self.length;
-        if !undefined(trail, length, g) {
-            return Stepped {
-                run: self,
-                number: ALREADY_DEFINED,
-                place: 0,
-            };
+        let named = literal_named(self, c, clause, l, instance, count);
+        let g = literal_instance(clause, l, instance, count);
+        let open = undefined(held, length, g);
+        if !named {
+            return refused(self, NO_SUCH);
         }
-        let place = first_not_false(trail, length, clause, instance, count, true, g);
+        if !open {
+            return refused(self, ALREADY_DEFINED);
+        }
+        let place = first_not_false(held, length, clause, instance, count, true, g);
         if 0 < place {
-            return Stepped {
-                run: self,
-                number: NOT_FALSE,
-                place: place,
-            };
+            return refused_at(self, place);
         }
-        if !possible(self.constants, trail, length, clause, instance, count) {
-            return Stepped {
-                run: self,
-                number: NOT_POSSIBLE,
-                place: 0,
-            };
+        if !possible(self.constants, held, length, clause, instance, count) {
+            return refused(self, NOT_POSSIBLE);
         }
-        let grown = append_propagated(trail, length, clause, c, l, instance, count);
+        let grown = append_propagated(held, length, clause, c, l, instance, count);
         if !grown.fits {
-            return Stepped {
-                run: self,
-                number: NO_ROOM,
-                place: 0,
-            };
+            return refused(self, NO_ROOM);
         }
-        let longer = grown.trail;
-        let mut next = self;
-        next.length = grown.length;
-        next.trail = longer;
-        Stepped {
-            run: next,
-            number: 0,
-            place: 0,
-        }
+        let next = with_trail(self, grown, self.level);
+        accepted(next)
     }
 
     // "7 Backtrack (literal L, the others D). L's instance is not in D; i is the largest level in D, 0 if D is empty; L's level is above i. The
@@ -731,79 +632,39 @@ impl Run {
         ensures { λ a. ⌜ Answers self (Backtrack l) a ⌝ }
     {
         if !self.stands {
-            return Stepped {
-                run: self,
-                number: WRONG_MOMENT,
-                place: 0,
-            };
+            return refused(self, WRONG_MOMENT);
         }
         let n = self.conflict;
         let c = n.clause;
         if !literal_exists(c, l) {
-            return Stepped {
-                run: self,
-                number: NO_SUCH,
-                place: 0,
-            };
+            return refused(self, NO_SUCH);
         }
         if again(n, l) {
-            return Stepped {
-                run: self,
-                number: WRONG_LITERAL,
-                place: 0,
-            };
+            return refused(self, WRONG_LITERAL);
         }
         let trail = self.trail;
         let length = self.length;
         let i = back_level(trail, length, n, l);
         let g = conflict_instance(n, l);
         if level_of(trail, length, g) <= i {
-            return Stepped {
-                run: self,
-                number: NOT_ABOVE,
-                place: 0,
-            };
+            return refused(self, NOT_ABOVE);
         }
         let part = cut(trail, length, i);
         let kept = part.trail;
         let instance = n.instance;
         if !possible(self.constants, kept, part.length, c, instance, c.variables) {
-            return Stepped {
-                run: self,
-                number: KEPT_NOT_POSSIBLE,
-                place: 0,
-            };
+            return refused(self, KEPT_NOT_POSSIBLE);
         }
         let number = self.input + self.learned + 1;
         let grown = append_propagated(kept, part.length, c, number, l, instance, c.variables);
         if !grown.fits {
-            return Stepped {
-                run: self,
-                number: NO_ROOM,
-                place: 0,
-            };
+            return refused(self, NO_ROOM);
         }
         if MOST_LEARNED <= self.learned as usize {
-            return Stepped {
-                run: self,
-                number: NO_ROOM,
-                place: 0,
-            };
+            return refused(self, NO_ROOM);
         }
-        let longer = grown.trail;
-        let blank = no_instanced();
-        let mut next = self;
-        next.learned = self.learned + 1;
-        next.level = i;
-        next.length = grown.length;
-        next.stands = false;
-        next.trail = longer;
-        next.conflict = blank;
-        Stepped {
-            run: next,
-            number: 0,
-            place: 0,
-        }
+        let next = learning(self, grown, i);
+        accepted(next)
     }
 
     // One proposed step, handed the clause that it looks at: 7 for an unknown rule, and else what its rule answers, which is 3 for an
@@ -823,11 +684,7 @@ impl Run {
             6 => self.skip(),
             7 => self.backtrack(x.literal),
             8 => self.grow(x.amount),
-            _ => Stepped {
-                run: self,
-                number: UNKNOWN_RULE,
-                place: 0,
-            },
+            _ => refused(self, UNKNOWN_RULE),
         }
     }
 }

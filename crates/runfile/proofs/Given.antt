@@ -215,7 +215,8 @@ clause-fields-read arities =
       and-i (allOf (properAtom v) az) _ (allOf-in (properAtom v) az (ha .1)) (allOf-in (properLiteral arities v) ls (hl .1)),
     ))))))
 
-no-value : {A P : Type 0} {x : A} {j n p : ℕ} → bad n p ≡ got x j → P
+-- A refusal is no value.
+pub no-value : {A P : Type 0} {x : A} {j n p : ℕ} → bad n p ≡ got x j → P
 no-value {A} e = let z : _≡_ {A = ℕ} 1 0 = ap kind e in absurd (omega arith)
   where
     kind : Got A → ℕ

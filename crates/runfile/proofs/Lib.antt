@@ -2,3 +2,4 @@
 pub mod Cases
 pub mod Given
 pub mod Back
+pub mod Times

@@ -1,4 +1,3 @@
-use mathlib.Core.Path.{refl}
 use lib.ListN.{length-map}
 use borrow.Author.Needs.{needs}
 use Rattle.rules.proofs.count_of.Statement.{statement}

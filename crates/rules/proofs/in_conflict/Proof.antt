@@ -1,4 +1,3 @@
-use mathlib.Core.Path.{sym, _∙_}
 use borrow.Author.Needs.{needs}
 use Rattle.rules.proofs.in_conflict.Statement.{statement}
 use Rattle.rules.proofs.in_conflict.Tie as tie

@@ -27,6 +27,9 @@ backtrack-requires c κs = (c .before .before .pre .0, c .before .before .pre .1
 grow-requires : tie.Need-grow-requires
 grow-requires c κs = (c .before .before .pre .0, c .before .before .pre .1)
 
+refused-requires : tie.Need-refused-requires
+refused-requires c κs = search needs
+
 returns : tie.Need-returns
 returns c = answered-as (c .before .before .before .args .self) (c .before .before .before .args .clause) _ (propagate-step (c .before .before .before .args .x) (c .before .match .keys1)) (c .propagate .ensures)
 
@@ -52,7 +55,7 @@ returns-8 : tie.Need-returns-8
 returns-8 c = answers-as (c .before .before .before .args .self) (c .before .before .before .args .clause) _ (grow-step (c .before .before .before .args .x) (c .before .match .keys8)) (c .grow .ensures)
 
 returns-9 : tie.Need-returns-9
-returns-9 c = answered-as (c .before .before .args .self) (c .before .before .args .clause) _ (unknown-step (c .before .before .args .x) (c .match .rest .0 .0 .0 .0 .0 .0 .0 .1) (c .match .rest .0 .0 .0 .0 .0 .0 .1) (c .match .rest .0 .0 .0 .0 .0 .1) (c .match .rest .0 .0 .0 .0 .1) (c .match .rest .0 .0 .0 .1) (c .match .rest .0 .0 .1) (c .match .rest .0 .1) (c .match .rest .1)) (unknown-answered (c .before .before .args .self) (c .before .before .args .clause) _)
+returns-9 c = rw (c .refused .ensures) (answered-as (c .before .before .before .args .self) (c .before .before .before .args .clause) _ (unknown-step (c .before .before .before .args .x) (c .before .match .rest .0 .0 .0 .0 .0 .0 .0 .1) (c .before .match .rest .0 .0 .0 .0 .0 .0 .1) (c .before .match .rest .0 .0 .0 .0 .0 .1) (c .before .match .rest .0 .0 .0 .0 .1) (c .before .match .rest .0 .0 .0 .1) (c .before .match .rest .0 .0 .1) (c .before .match .rest .0 .1) (c .before .match .rest .1)) (unknown-answered (c .before .before .before .args .self) (c .before .before .before .args .clause) _))
 
 pub step-spec : {M : Type 1} → statement M
 step-spec =
@@ -66,6 +69,7 @@ step-spec =
     skip-requires
     backtrack-requires
     grow-requires
+    refused-requires
     returns
     returns-2
     returns-3

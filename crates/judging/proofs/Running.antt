@@ -1,0 +1,225 @@
+-- The run so far: what holds before each turn of the loop over the steps, and how a turn goes on from it.
+use mathlib.Core.Path.{_≡_, refl, sym, ap, subst, _∙_}
+use mathlib.Core.List.{List, [], _∷_, _++_, append-assoc, append-nil}
+use Prim.Native.Nat.{ℕ, _+_, _*_, _≤_, _<_}
+use native.Mathlib.Omega.{arith}
+use lib.ListN.{length, getD, set}
+use lib.Seq.{length-sets}
+use Rattle.basis.specs.Refusals.{accepted}
+use Rattle.lists.specs.Arrays.{exactly}
+use Rattle.calculus.specs.Clauses as calculus
+use Rattle.calculus.specs.Rules.{Answer}
+use Rattle.calculus.specs.States as states
+use Rattle.calculus.specs.States.{clauses}
+use Rattle.calculus.proofs.Answers.{number-in-table}
+use Rattle.basis.specs.Numbers.{whole}
+use Rattle.runfile.specs.Readers.{got}
+use Rattle.runfile.specs.File.{File, file, mostSteps, step}
+use Rattle.runfile.specs.Claims.{opened}
+use Rattle.fields.specs.declared.Cursor.the-variants as C
+use Rattle.clauses.specs.Records.{packed}
+use Rattle.admission.specs.Offered as admission
+use Rattle.clauses.specs.declared.Clause.{Clause}
+use Rattle.header.specs.declared.HeaderRead.{HeaderRead}
+use Rattle.rules.specs.Answers.{RunOf, Told, Answered, Handed}
+use Rattle.rules.specs.Records.{stepOf}
+use Rattle.rules.specs.declared.Run.{Run}
+use Rattle.rules.specs.declared.Step.{Step}
+use Rattle.rules.specs.declared.Stepped.{Stepped}
+use Rattle.rules.proofs.Runs.{Small, kept-small}
+use Rattle.rules.proofs.Told.{admitted-reached, steps-keep-reached}
+use Rattle.steps.specs.Records.{fileAnswer, stepAnswer}
+use Rattle.steps.specs.declared.StepRead.{StepRead}
+use Rattle.steps.proofs.Files.{Ahead, Reads, Stepping, file-reads, step-ahead}
+use Rattle.state.specs.States.{lookedAt, mostClauses, newRun, packedTable, slotOf}
+use Rattle.state.specs.declared.State.{State}
+use Rattle.state.proofs.Opening.{new-is}
+use Rattle.state.proofs.Table.{looks-at, pastTable, room, table-learns, table-same}
+use Rattle.text.specs.Text.{Wrote}
+use Rattle.text.proofs.Text.{and-then, as-text}
+use Rattle.listing.specs.Lines.{acceptedLine, mostLine, refusedLine}
+use Rattle.listing.specs.Listing.{Tried, went, refused, through}
+use Rattle.listing.proofs.Lines.{length-accepted, length-refused}
+use Rattle.judging.specs.Running.{Ran, placeOf}
+
+-- j of n steps have been tried and accepted: the others stand ahead of the cursor, and whatever comes of them completes what was tried.
+pub record SoFar (s d : List ℕ) (n : ℕ) (d′ : List ℕ) (run : Run) (table : List Clause) (cursor at j : ℕ) : Type 0 where
+  pub says : File
+  pub next : ℕ
+  pub is : file s ≡ got says next
+  pub others : List states.Step
+  pub ahead : Ahead s cursor others
+  pub count : n ≡ j + length others
+  pub few : n ≤ mostSteps
+  pub state : states.State
+  pub run-of : RunOf run state
+  pub table-is : table ≡ packedTable (clauses state)
+  pub lines : List ℕ
+  pub wrote : Wrote d 0 lines d′ at
+  pub short : at ≤ j * mostLine
+  pub on : (v : List ℕ) (e : Answer) → Tried state (j + 1) others v e → Tried (opened says) 1 (says .steps) (lines ++ v) e
+
+-- A writer keeps the buffer's length.
+pub same-long : {d d′ w : List ℕ} {i r : ℕ} → Wrote d i w d′ r → length d′ ≡ length d
+same-long {d} {d′} {w} {i} a = ap length (a .left) ∙ length-sets d i w
+
+-- ---- before the first step
+
+pub start : (s d : List ℕ) (h : HeaderRead) (first : ℕ) {run : Run} {table : List Clause} → h ≡ fileAnswer s → h .at ≡ C.At first
+    → run ≡ newRun (h .constants) (h .input) → table ≡ exactly mostClauses (packed calculus.noClause) (h .clauses) → SoFar s d (h .steps) d run table first 0 0
+start s d h first {run} {table} e q r t = record {
+  says = F;
+  next = f .next;
+  is = f .is;
+  others = F .steps;
+  ahead = f .ahead;
+  count = omega (arith, ap (λ (k : HeaderRead). k .steps) (f .head));
+  few = omega (arith, ap (λ (k : HeaderRead). k .steps) (f .head), f .sayable .few-steps);
+  state = opened F;
+  run-of = record { reached = admitted-reached (opened F) (f .sayable .admitted); is = r ∙ (λ i. newRun (f .head i .constants) (f .head i .input)) };
+  table-is = t ∙ ap (λ (k : HeaderRead). exactly mostClauses blank (k .clauses)) (f .head)
+      ∙ ap (λ (q : State). q .table) (new-is (F .constants) (length (F .input)) (F .arities) (admission.packedTable (F .input)) (F .input) refl refl (f .sayable .admitted .few-clauses));
+  lines = [];
+  wrote = record { next = omega arith; left = refl };
+  short = omega arith;
+  on = λ v e t. t;
+}
+  where
+    f : Reads s h first
+    f = file-reads s h e first q
+
+    F : File
+    F = f .says
+
+    blank : Clause
+    blank = packed calculus.noClause
+
+-- ---- a turn
+
+module _ {s d d′ : List ℕ} {n cursor at j : ℕ} {run : Run} {table : List Clause} (S : SoFar s d n d′ run table cursor at j) where
+  -- There is room for one line more.
+  pub line-fits : j < n → mostSteps * mostLine ≤ length d → (j + 1 ≤ mostSteps) × (at + mostLine ≤ length d′)
+  line-fits h k = (omega (arith, S .few), omega (arith, S .few, S .short, same-long (S .wrote)))
+
+  -- The clause in the slot is the one that the step looks at.
+  pub handed : (x : Step) (c k : ℕ) → c ≡ lookedAt run x → k ≡ slotOf c → Handed run (getD table k pastTable) (stepOf x)
+  handed x c k e h = (S .state, S .run-of, looks-at (S .run-of) (S .table-is) x c k e h)
+
+  -- The step r was read, handed its clause and answered by a.
+  module _ (h : j < n) (r : StepRead) (e : r ≡ stepAnswer (step s cursor)) (c k : ℕ) (looked : c ≡ lookedAt run (r .step)) (slot : k ≡ slotOf c) (a : Stepped) (answered : Answered run (getD table k pastTable) (stepOf (r .step)) a) where
+    told : Told (S .state) (stepOf (r .step)) a
+    told = answered (S .state) (S .run-of) (looks-at (S .run-of) (S .table-is) (r .step) c k looked slot)
+
+    now : Stepping s (S .others) r
+    now = step-ahead s cursor (S .others) r (S .ahead) (omega (arith, S .count)) e
+
+    abbrev b : Answer
+    b = told .0
+
+    run-next : RunOf (a .run) (b .state)
+    run-next = record { reached = steps-keep-reached (S .state) (stepOf (r .step)) b (S .run-of .reached) (told .1); is = ap (λ (q : Stepped). q .run) (told .2) }
+
+    number-is : a .number ≡ b .number
+    number-is = ap (λ (q : Stepped). q .number) (told .2)
+
+    others-is : stepOf (r .step) ∷ now .others ≡ S .others
+    others-is = ap (λ (x : states.Step). x ∷ now .others) (now .says) ∙ sym (now .all)
+
+    -- An accepted Backtrack has a slot for what it learns.
+    pub slot-free : a .number ≡ 0 → r .step .rule ≡ 7 → run .input + run .learned < mostClauses
+    slot-free z f = room (r .step) a told z f (S .run-of)
+
+    -- A refused step: its line is the last, and nothing more is tried.
+    pub stop : ¬ (a .number ≡ 0) → {d₂ : List ℕ} {at₂ : ℕ} → Wrote d′ at (refusedLine (j + 1) (stepOf (r .step)) (a .number)) d₂ at₂
+        → Ran s d d₂ (record { run = a .run; table = table; number = a .number; place = a .place; at = at₂ })
+    stop z {d₂} {at₂} w = record {
+      says = S .says;
+      next = S .next;
+      is = S .is;
+      lines = S .lines ++ line (a .number);
+      answer = b;
+      tried = S .on (line (a .number)) b (subst (λ (xs : List states.Step). Tried (S .state) (j + 1) xs (line (a .number)) b) others-is
+          (subst (λ (k : ℕ). Tried (S .state) (j + 1) (x ∷ now .others) (line k) b) (sym number-is) (refused b (told .1) (λ q. z (number-is ∙ q)))));
+      wrote = and-then (S .wrote) w;
+      short = omega (arith, w .next, S .short, S .few, length-refused (j + 1) x (a .number) (omega (arith, S .few)) (omega (arith, number-is, number-in-table whole (S .state) x b (told .1))));
+      run = run-next .is;
+      table = S .table-is ∙ sym (table-same (r .step) a told (λ q. absurd (z q)));
+      number = number-is;
+      place = ap (λ (q : Stepped). q .place) (told .2);
+      reached = run-next .reached;
+    }
+      where
+        x : states.Step
+        x = stepOf (r .step)
+
+        line : ℕ → List ℕ
+        line k = refusedLine (j + 1) x k
+
+    -- An accepted one: its line follows the others.
+    module _ (z : a .number ≡ 0) {d₂ : List ℕ} {at₂ : ℕ} (w : Wrote d′ at (acceptedLine (j + 1) (stepOf (r .step)) (a .run .length) (a .run .level)) d₂ at₂) {cursor₂ : ℕ} (past : cursor₂ ≡ placeOf (r .at)) where
+      turn : {table₂ : List Clause} → table₂ ≡ packedTable (clauses (b .state)) → SoFar s d n d₂ (a .run) table₂ cursor₂ at₂ (j + 1)
+      turn t = record {
+        says = S .says;
+        next = S .next;
+        is = S .is;
+        others = now .others;
+        ahead = subst (λ (i : ℕ). Ahead s i (now .others)) (sym (past ∙ ap placeOf (now .at))) (now .ahead);
+        count = omega (arith, S .count, ap length (now .all));
+        few = S .few;
+        state = b .state;
+        run-of = run-next;
+        table-is = t;
+        lines = S .lines ++ line (b .state);
+        wrote = and-then (S .wrote) (as-text (λ i. acceptedLine (j + 1) x (run-next .is i .length) (run-next .is i .level)) w);
+        short = omega (
+          arith,
+          w .next,
+          S .short,
+          length-accepted (j + 1) x (a .run .length) (a .run .level) (omega (arith, S .few))
+              (omega (arith, small .few-entries)) (omega (arith, small .few-entries, small .few-decisions)),
+        );
+        on = λ v e t. subst (λ (l : List ℕ). Tried (opened (S .says)) 1 (S .says .steps) l e) (sym (append-assoc (S .lines) (line (b .state)) v))
+            (S .on (line (b .state) ++ v) e (subst (λ (xs : List states.Step). Tried (S .state) (j + 1) xs (line (b .state) ++ v) e) others-is (went b (told .1) (sym number-is ∙ z) t)));
+      }
+        where
+          x : states.Step
+          x = stepOf (r .step)
+
+          line : states.State → List ℕ
+          line q = acceptedLine (j + 1) x (length (q .trail)) (q .level)
+
+          small : Small (a .run)
+          small = kept-small (b .state, run-next)
+
+      pub turn-same : ¬ (r .step .rule ≡ 7) → {table₂ : List Clause} → table₂ ≡ table → SoFar s d n d₂ (a .run) table₂ cursor₂ at₂ (j + 1)
+      turn-same f t = turn (t ∙ S .table-is ∙ sym (table-same (r .step) a told (λ q. f)))
+
+      pub turn-learns : r .step .rule ≡ 7 → {table₂ : List Clause} → table₂ ≡ set table (run .input + run .learned) (run .conflict .clause) → SoFar s d n d₂ (a .run) table₂ cursor₂ at₂ (j + 1)
+      turn-learns f t = turn (t ∙ table-learns (r .step) a told z f (S .run-of) (S .table-is))
+
+-- ---- after the last step
+
+none-left : {A : Type 0} (l : List A) → length l ≤ 0 → l ≡ []
+none-left [] h = refl
+none-left (x ∷ l) h = absurd (omega arith)
+
+pub done : {s d d′ : List ℕ} {n cursor at j : ℕ} {run : Run} {table : List Clause} → SoFar s d n d′ run table cursor at j → n ≤ j
+    → Ran s d d′ (record { run = run; table = table; number = 0; place = 0; at = at })
+done {j = j} S h = record {
+  says = S .says;
+  next = S .next;
+  is = S .is;
+  lines = S .lines;
+  answer = last;
+  tried = rw append-nil at (S .on [] last (subst (λ (xs : List states.Step). Tried (S .state) (j + 1) xs [] last) (sym (none-left (S .others) (omega (arith, S .count)))) through));
+  wrote = S .wrote;
+  short = omega (arith, S .short, S .few, S .count);
+  run = S .run-of .is;
+  table = S .table-is;
+  number = refl;
+  place = refl;
+  reached = S .run-of .reached;
+}
+  where
+    last : Answer
+    last = record { state = S .state; number = accepted; place = 0 }

@@ -1,0 +1,17 @@
+-- `judging::new_run` meets its contract.
+use mathlib.Core.Bool.{false}
+use borrow.Author.Needs.{needs}
+use Rattle.judging.proofs.new_run.Statement.{statement}
+use Rattle.judging.proofs.new_run.Tie as tie
+
+empty-trail-requires : tie.Need-empty-trail-requires
+empty-trail-requires c κs = search needs
+
+no-instanced-requires : tie.Need-no-instanced-requires
+no-instanced-requires c κs = search needs
+
+returns : tie.Need-returns
+returns c = λ i. record { constants = c .before .before .args .constants; input = c .before .before .args .input; learned = 0; level = 0; length = 0; stands = false; trail = c .before .empty-trail .ensures i; conflict = c .no-instanced .ensures i }
+
+pub new-run-spec : {M : Type 1} → statement M
+new-run-spec = tie.close (tie.spec empty-trail-requires no-instanced-requires returns)

@@ -1,0 +1,71 @@
+-- `judging::with_room` meets its contract. The loop's invariant: the clauses before j stand in the table, blanks from there on.
+use borrow.Author.Needs.{needs}
+use mathlib.Core.Path.{_≡_, sym, _∙_, ap}
+use mathlib.Core.List.{List}
+use Prim.Native.Nat.{_≤_, _-_}
+use native.Mathlib.Omega.{arith}
+use lib.ListN.{getD, replicate, set, take}
+use lib.Seq.{take-all}
+use Rattle.basis.specs.Limits.{mostInput}
+use Rattle.lists.specs.Arrays.{exactly}
+use Rattle.lists.proofs.Arrays.{copied-turn, exactly-none, getD-any}
+use Rattle.calculus.specs.Clauses.{noClause}
+use Rattle.clauses.specs.Records.{packed}
+use Rattle.clauses.specs.declared.Clause.{Clause}
+use Rattle.state.specs.States.{mostClauses}
+use Rattle.state.proofs.Table.{pastTable}
+use Rattle.judging.proofs.with_room.Statement.{statement}
+use Rattle.judging.proofs.with_room.Tie as tie
+
+abbrev Inv-loop : tie.InvT-loop
+Inv-loop clauses out₀ j₀ out j = (j ≤ mostInput) × (out ≡ exactly mostClauses (packed noClause) (take j clauses))
+
+abbrev μ-loop : tie.MeasureT-loop
+μ-loop clauses out₀ j₀ out j = mostInput - j
+
+no-clause-requires : tie.Need-no-clause-requires Inv-loop μ-loop
+no-clause-requires c κs = search needs
+
+loop-holds : tie.Need-loop-holds Inv-loop μ-loop
+loop-holds c = (omega arith, ap (λ (b : Clause). replicate mostClauses b) (c .no-clause .ensures) ∙ sym (exactly-none (packed noClause) mostClauses))
+
+mul-c : tie.Need-mul-c Inv-loop μ-loop
+mul-c c = search needs
+
+array-copy-out-c : tie.Need-array-copy-out-c Inv-loop μ-loop
+array-copy-out-c c = search needs
+
+mul-out : tie.Need-mul-out Inv-loop μ-loop
+mul-out c = search needs
+
+array-set-from-out : tie.Need-array-set-from-out Inv-loop μ-loop
+array-set-from-out c = search needs
+
+add-j : tie.Need-add-j Inv-loop μ-loop
+add-j c = search needs
+
+loop-less : tie.Need-loop-less Inv-loop μ-loop
+loop-less c = search needs
+
+loop-again : tie.Need-loop-again Inv-loop μ-loop
+loop-again c = let a = c .before .before .before .before .args in let s = c .before .before .loop in (omega arith, ap (λ (l : List Clause). set l (s .j) (getD (a .t1) (s .j) pastTable)) (s .inv .1) ∙ ap (set (exactly mostClauses (packed noClause) (take (s .j) (a .t1))) (s .j)) (getD-any (a .t1) (s .j) pastTable (packed noClause) (omega arith)) ∙ copied-turn mostClauses (packed noClause) (a .t1) (s .j) (omega arith) (omega arith))
+
+returns : tie.Need-returns Inv-loop μ-loop
+returns c = let a = c .before .before .before .args in let s = c .before .loop in s .inv .1 ∙ ap (exactly mostClauses (packed noClause)) (take-all (s .j) (a .t1) (omega arith))
+
+pub with-room-spec : {M : Type 1} → statement M
+with-room-spec =
+    tie.close
+    (tie.spec
+    Inv-loop
+    μ-loop
+    no-clause-requires
+    loop-holds
+    mul-c
+    array-copy-out-c
+    mul-out
+    array-set-from-out
+    add-j
+    loop-less
+    loop-again
+    returns)
