@@ -1,5 +1,5 @@
 -- What the records of a state say is the state: so the text written of them is the state's.
-use mathlib.Core.Path.{_≡_, refl, sym, ap, ap₂, _∙_}
+use mathlib.Core.Path.{_≡_, refl, sym, ap, ap₂, subst, _∙_}
 use mathlib.Core.Bool.{Bool, true, false}
 use mathlib.Core.List.{List, [], _∷_, _++_, List·Memᴰ, map, map-id, map-map, reverse}
 use mathlib.Core.Option.{Option, none, some}
@@ -18,10 +18,14 @@ use Rattle.clauses.specs.declared.Instanced.{Instanced}
 use Rattle.trail.proofs.Stored.{packed-length, row-says}
 use Rattle.trail.specs.Entries.{entryOf}
 use Rattle.rules.proofs.Runs.{clauses-is, conflict-says, constants-is, fine, level-is, no-conflict, stands-is, stored}
+use Rattle.rules.specs.Answers.{RunOf}
 use Rattle.rules.specs.declared.Run.{Run}
+use Rattle.state.proofs.Table.{run-of, table-is}
+use Rattle.state.specs.States as states
 use Rattle.state.specs.States.{mostClauses, packedTable}
+use Rattle.state.specs.declared.State as whole
 use Rattle.inspection.specs.StateText.{inTurn, entryLine, clauseLine, firstLine, conflictLine, stateText}
-use Rattle.inspection.specs.Writing.{Recorded, ShownOnce, clauseLineOf, conflictSaid, entryLineOf}
+use Rattle.inspection.specs.Writing.{Kept, Recorded, ShownOnce, Shows, clauseLineOf, conflictSaid, entryLineOf, mostState}
 
 -- The text of elements that say others
 turn-says : {A B : Type 0} (f : ℕ → B → List ℕ) (g : A → B) (n : ℕ) (xs : List A) → inTurn n (λ k x. f k (g x)) xs ≡ inTurn n f (map g xs)
@@ -70,3 +74,10 @@ module _ {run : Run} {table : List Clause} {s : State} (R : Recorded run table s
 
 pub shown-once : ShownOnce
 shown-once run table d i d₁ d₂ r₁ r₂ (s, R) a b = (a s R .wrote .left ∙ sym (b s R .wrote .left), a s R .wrote .next ∙ sym (b s R .wrote .next))
+
+-- Of a whole state record, its run and its table
+pub kept-of : {r : whole.State} {run : Run} {table : List Clause} → run ≡ r .run → table ≡ r .table → states.Kept r → Kept run table
+kept-of e f (s, S) = (s, record { run-of = subst (λ (q : Run). RunOf q s) (sym e) (run-of S); table-is = f ∙ table-is S })
+
+pub shown-room : {run : Run} {table : List Clause} {d d′ : List ℕ} {i r : ℕ} → Kept run table → Shows run table d i d′ r → r ≤ i + mostState
+shown-room (s, R) h = h s R .room

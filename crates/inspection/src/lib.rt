@@ -32,6 +32,9 @@ use trail::atoms_of;
 use trail::constants_of;
 use trail::literals_of;
 
+// No state's text has more bytes.
+pub const MOST_STATE: usize = 82070;
+
 // ---- numbers and atoms
 
 // A number of at most three digits
