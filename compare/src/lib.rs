@@ -1,5 +1,7 @@
 //! The proved tool behind safe functions: the exports of the library `judge_export`, which take byte slices and answer by numbers.
 
+pub mod steps;
+
 extern "C" {
     // A slice is handed over as its start and its length.
     fn judge_file(file: *const u8, file_len: usize, out: *mut u8, out_len: usize) -> u64;

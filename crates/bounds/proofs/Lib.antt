@@ -5,3 +5,5 @@ pub mod Same
 pub mod Values
 pub mod Depths
 pub mod Draw
+pub mod Bare
+pub mod Decided

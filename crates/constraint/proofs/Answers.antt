@@ -2,32 +2,23 @@
 use mathlib.Core.Path.{_≡_, subst}
 use mathlib.Core.Bool.{true}
 use mathlib.Core.List.{List}
-use Prim.Native.Nat.{ℕ, suc, _+_, _<_, _≤_}
+use Prim.Native.Nat.{ℕ, suc, _+_, _<_}
 use native.Mathlib.Decide.{decLt}
 use native.Mathlib.Omega.{arith}
 use lib.ListN.{length, take, List·getD-eq-default}
-use lib.IntN.{ℤ, pos, negsuc, negℤ, _+ℤ_, _-ℤ_, +ℤ-invr}
-use lib.Signed.{_≤ℤ_, _<ℤ_, ltZ}
+use lib.IntN.{ℤ, pos, negsuc, _+ℤ_, _-ℤ_, +ℤ-invr}
+use lib.Signed.{ltZ}
 use Rattle.basis.specs.declared.Atom.{Atom}
 use Rattle.basis.specs.Numbers.{whole}
 use Rattle.basis.specs.Atoms.{noAtom, Proper, Holds, Possible}
 use Rattle.lists.proofs.Members.{of-members, member-at}
-use Rattle.integers.proofs.Linear.{le→, lt→, →le, →lt, sum, negated}
-use Rattle.integers.proofs.Order.{by-sum}
+use Rattle.integers.proofs.Order.{by-order, by-sum, shifted-holds, shifted-rises}
 use Rattle.bounds.specs.Whole.{Together}
 use Rattle.bounds.proofs.Draw.{drawn}
 use Rattle.constraint.specs.Test.{Accepted, atomAt}
 use Rattle.constraint.specs.Square.{places, mostBound, entry, Stands, Ordered, Meets, Posed}
 use Rattle.constraint.proofs.Stands.{stands-values, stands-none}
 use Rattle.constraint.proofs.Steps.{place-p, place-q, within-c}
-
--- Values shifted until place 0 has zero.
-pub shifted-rises : (x y z : ℤ) → x ≤ℤ (negsuc 0 +ℤ y) → (x -ℤ z) <ℤ (y -ℤ z)
-shifted-rises x y z h = →lt (x -ℤ z) (y -ℤ z) (omega (arith, le→ h, sum (negsuc 0) y, sum x (negℤ z), sum y (negℤ z)))
-
-pub shifted-holds : (x y z c : ℤ) → x ≤ℤ (c +ℤ y) → ((x -ℤ z) -ℤ (y -ℤ z)) ≤ℤ c
-shifted-holds x y z c h = →le ((x -ℤ z) -ℤ (y -ℤ z)) c
-    (omega (arith, le→ h, sum c y, sum x (negℤ z), sum y (negℤ z), negated (y -ℤ z), sum (x -ℤ z) (negℤ (y -ℤ z))))
 
 pub answer-yes : (constants count : ℕ) (atoms : List Atom) (t : List (List ℤ)) → Stands (Posed constants atoms count) t → Possible whole constants (take count atoms)
 answer-yes constants count atoms t S =
@@ -51,9 +42,6 @@ module _ (constants count : ℕ) (atoms : List Atom) (A : Accepted constants cou
   -- Numbers that are possible, drawn together: they keep the order and each atom.
   near : (w : ℕ → ℤ) × Together places mostBound (P .value) w
   near = drawn places mostBound (P .value)
-
-  by-order : (x y : ℤ) → x <ℤ y → x ≤ℤ (negsuc 0 +ℤ y)
-  by-order x y h = →le x (negsuc 0 +ℤ y) (omega (arith, lt→ h, sum (negsuc 0) y))
 
   in-order : Ordered constants (near .0)
   in-order = (

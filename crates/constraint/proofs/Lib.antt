@@ -6,4 +6,3 @@ pub mod Bare
 pub mod Steps
 pub mod Answers
 pub mod Refusals
-pub mod Decided

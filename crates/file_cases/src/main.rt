@@ -27,7 +27,7 @@ fn print(text: &[u8]) {
 }
 
 fn listing_buffer() -> [u8; MOST_LISTING]
-    ensures { λ r. ⌜ 52008 ≡ length r ⌝ }
+    ensures { λ r. ⌜ 54008 ≡ length r ⌝ }
 {
     [0; MOST_LISTING]
 }
@@ -52,7 +52,11 @@ fn print_listing(file: &[u8]) {
     let mut out = listing_buffer();
     let answer = judging::judge(file, &mut out);
     match answer {
-        Written::Bytes { count } => {
+        Written::Bytes {
+            count,
+            number,
+            place,
+        } => {
             let n = within(count, &out);
             print(&out[..n]);
         }

@@ -4,10 +4,10 @@ use mathlib.Core.Bool.{Bool, true, false, not}
 use Prim.Native.Nat.{ℕ, _+_, _≤_}
 use native.Mathlib.Omega.{arith}
 use lib.Dec.{T}
-use lib.IntN.{ℤ, negℤ, _+ℤ_, _-ℤ_}
+use lib.IntN.{ℤ, negsuc, negℤ, _+ℤ_, _-ℤ_}
 use lib.Signed.{_≤ℤ_, _<ℤ_, leZ, ltZ, leZ-yes, ltZ-yes, ltZ-no}
 use Rattle.integers.specs.Sides.{Within}
-use Rattle.integers.proofs.Linear.{le→, lt→, →le, →eq, sum, negated}
+use Rattle.integers.proofs.Linear.{le→, lt→, →le, →lt, →eq, sum, negated}
 
 pub ltZ-true : {a b : ℤ} → ltZ a b ≡ true → a <ℤ b
 ltZ-true e = ltZ-yes (subst T (sym e) tt)
@@ -39,6 +39,18 @@ by-sum x y c h = →le x (c +ℤ y) (omega (arith, le→ h, sum x (negℤ y), su
 
 pub by-difference : (x y c : ℤ) → x ≤ℤ (c +ℤ y) → (x -ℤ y) ≤ℤ c
 by-difference x y c h = →le (x -ℤ y) c (omega (arith, le→ h, sum x (negℤ y), sum c y, negated y))
+
+-- Below, by at least one
+pub by-order : (x y : ℤ) → x <ℤ y → x ≤ℤ (negsuc 0 +ℤ y)
+by-order x y h = →le x (negsuc 0 +ℤ y) (omega (arith, lt→ h, sum (negsuc 0) y))
+
+-- Both numbers less the same one
+pub shifted-rises : (x y z : ℤ) → x ≤ℤ (negsuc 0 +ℤ y) → (x -ℤ z) <ℤ (y -ℤ z)
+shifted-rises x y z h = →lt (x -ℤ z) (y -ℤ z) (omega (arith, le→ h, sum (negsuc 0) y, sum x (negℤ z), sum y (negℤ z)))
+
+pub shifted-holds : (x y z c : ℤ) → x ≤ℤ (c +ℤ y) → ((x -ℤ z) -ℤ (y -ℤ z)) ≤ℤ c
+shifted-holds x y z c h = →le ((x -ℤ z) -ℤ (y -ℤ z)) c
+    (omega (arith, le→ h, sum c y, sum x (negℤ z), sum y (negℤ z), negated (y -ℤ z), sum (x -ℤ z) (negℤ (y -ℤ z))))
 
 -- Ranges of a sum, and a wider range.
 pub within-sum : {m n : ℕ} {x y : ℤ} → Within m x → Within n y → Within (m + n) (x +ℤ y)

@@ -8,5 +8,5 @@ use Rattle.listing.proofs.NoModel.{refuted-has-no-model}
 use Rattle.judging.specs.Judging.{EndToEnd}
 
 pub end-to-end : EndToEnd
-end-to-end s d d′ v n (room, (w, listing, count, left)) e =
-    refuted-has-no-model s w v listing (sym (ap (take n) left ∙ ap (λ (k : ℕ). take k (w ++ drop n d)) count ∙ take-append-seam w (drop n d)) ∙ e)
+end-to-end s d d′ v n k p (room, ends, (w, listing, count, left)) e =
+    refuted-has-no-model s w v listing (sym (ap (take n) left ∙ ap (λ (i : ℕ). take i (w ++ drop n d)) count ∙ take-append-seam w (drop n d)) ∙ e)

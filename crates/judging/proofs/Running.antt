@@ -3,7 +3,7 @@ use mathlib.Core.Path.{_≡_, refl, sym, ap, subst, _∙_}
 use mathlib.Core.List.{List, [], _∷_, _++_, append-assoc, append-nil}
 use Prim.Native.Nat.{ℕ, _+_, _*_, _≤_, _<_}
 use native.Mathlib.Omega.{arith}
-use lib.ListN.{length, getD, set}
+use lib.ListN.{length, getD, set, drop-of-length-le}
 use lib.Seq.{length-sets}
 use Rattle.basis.specs.Refusals.{accepted}
 use Rattle.lists.specs.Arrays.{exactly}
@@ -199,10 +199,6 @@ module _ {s d d′ : List ℕ} {n cursor at j : ℕ} {run : Run} {table : List C
 
 -- ---- after the last step
 
-none-left : {A : Type 0} (l : List A) → length l ≤ 0 → l ≡ []
-none-left [] h = refl
-none-left (x ∷ l) h = absurd (omega arith)
-
 pub done : {s d d′ : List ℕ} {n cursor at j : ℕ} {run : Run} {table : List Clause} → SoFar s d n d′ run table cursor at j → n ≤ j
     → Ran s d d′ (record { run = run; table = table; number = 0; place = 0; at = at })
 done {j = j} S h = record {
@@ -211,7 +207,7 @@ done {j = j} S h = record {
   is = S .is;
   lines = S .lines;
   answer = last;
-  tried = rw append-nil at (S .on [] last (subst (λ (xs : List states.Step). Tried (S .state) (j + 1) xs [] last) (sym (none-left (S .others) (omega (arith, S .count)))) through));
+  tried = rw append-nil at (S .on [] last (subst (λ (xs : List states.Step). Tried (S .state) (j + 1) xs [] last) (sym (drop-of-length-le (S .others) {i = 0} (omega (arith, S .count)))) through));
   wrote = S .wrote;
   short = omega (arith, S .short, S .few, S .count);
   run = S .run-of .is;

@@ -22,7 +22,8 @@ abbrev pub placeOf : Cursor → ℕ
 placeOf (C.At i) = i
 placeOf (C.Refused n p) = p
 
--- The steps of the file s were tried from its first state on, their lines written into the buffer d from its first byte on.
+-- "One line per step tried .. It stops at a refused step." The steps of the file s were tried from the state on that its header makes; their
+-- lines stand in the buffer from its first byte on; and r has the records of the state that stands and of the last answer.
 pub record Ran (s d d′ : List ℕ) (r : Ended) : Type 0 where
   pub says : File
   pub next : ℕ

@@ -2,22 +2,16 @@
 ghost use mathlib.Core.Path.{_≡_};
 ghost use Prim.Native.Nat.{_*_, _≤_};
 ghost use lib.ListN.{length};
-ghost use Rattle.calculus.specs.Clauses as calculus;
-ghost use Rattle.clauses.specs.Records.{packed};
-ghost use Rattle.lists.specs.Arrays.{exactly};
 ghost use Rattle.runfile.specs.File.{mostSteps};
 ghost use Rattle.fields.specs.declared.Cursor.the-variants as C;
 ghost use Rattle.steps.specs.Records.{fileAnswer};
-ghost use Rattle.state.specs.States.{mostClauses, newRun};
 ghost use Rattle.listing.specs.Lines.{mostLine};
-ghost use Rattle.judging.specs.Judging.{Says};
+ghost use Rattle.judging.specs.Judging.{Says, Shows};
 ghost use Rattle.judging.specs.Running.{Ran, placeOf};
-use basis::MOST_INPUT;
 use clauses::Clause;
-use clauses::no_clause;
-use clauses::no_instanced;
 use fields::Cursor;
 use header::HeaderRead;
+use inspection::put_state;
 use listing::put_accepted;
 use listing::put_bad;
 use listing::put_last;
@@ -25,19 +19,28 @@ use listing::put_refused;
 use rules::Run;
 use state::MOST_CLAUSES;
 use state::looked_at;
+use state::new_run;
 use state::slot_of;
+use state::with_room;
 use steps::read_file;
 use steps::step_at;
-use trail::empty_trail;
 
-// What judging a file into a buffer answers: how many bytes were written, or that the buffer is too short for every listing.
+// What judging a file into a buffer answers: how many bytes were written, and the number and place that judging ended with; or that the buffer
+// is shorter than a text can be, and was left.
 pub enum Written {
-    Bytes { count: usize },
+    Bytes {
+        count: usize,
+        number: u8,
+        place: usize,
+    },
     Short,
 }
 
-// No listing has more bytes: 2,000 lines and the last one.
+// No listing has more bytes: the lines of 2,000 steps and the last line.
 pub const MOST_LISTING: usize = 54008;
+
+// No inspection has more: the listing, a line for each of 160 entries and 96 clauses, and two more.
+pub const MOST_INSPECTION: usize = 136078;
 
 // After the steps of a file: what stands, the answer to the last step tried, and the place after the lines written
 struct Ended {
@@ -48,44 +51,9 @@ struct Ended {
     at: usize,
 }
 
-// ---- before the first step
-
-// A run of no steps
-fn new_run(constants: u8, input: u8) -> Run
-    ensures { λ r. ⌜ r ≡ newRun constants input ⌝ }
-{
-    let trail = empty_trail();
-    let conflict = no_instanced();
-    Run {
-        constants: constants,
-        input: input,
-        learned: 0,
-        level: 0,
-        length: 0,
-        stands: false,
-        trail: trail,
-        conflict: conflict,
-    }
-}
-
-// The input clauses, and room for the learned ones
-fn with_room(clauses: [Clause; MOST_INPUT]) -> [Clause; MOST_CLAUSES]
-    ensures { λ r. ⌜ r ≡ exactly mostClauses (packed calculus.noClause) clauses ⌝ }
-{
-    let blank = no_clause();
-    let mut out = [blank; MOST_CLAUSES];
-    let mut j: usize = 0;
-    while j < MOST_INPUT {
-        let c = clauses[j];
-        out[j] = c;
-        j += 1;
-    }
-    out
-}
-
 // ---- the steps
 
-// Where a cursor stands
+// Where a cursor stands, or was refused
 fn place_of(at: Cursor) -> usize
     ensures { λ r. ⌜ r ≡ placeOf at ⌝ }
 {
@@ -95,6 +63,7 @@ fn place_of(at: Cursor) -> usize
     }
 }
 
+// The last answer, with what stands and the place reached
 fn ended_with(run: Run, table: [Clause; MOST_CLAUSES], number: u8, place: u8, at: usize) -> Ended
     ensures { λ r. ⌜ r ≡ record { run = run; table = table; number = number; place = place; at = at } ⌝ }
 {
@@ -107,8 +76,8 @@ fn ended_with(run: Run, table: [Clause; MOST_CLAUSES], number: u8, place: u8, at
     }
 }
 
-// The steps of a file in order are tried, one after the other, each with its line. "It stops at a refused step." The table stays here: a step
-// is handed the one clause that it looks at, and only an accepted Backtrack writes.
+// Tries the steps of a file that is in order, a line for each. "It stops at a refused step." The table stays here: a step is handed the one
+// clause that it looks at, and only an accepted Backtrack writes it.
 fn run_steps(file: &[u8], head: HeaderRead, first: usize, out: &mut [u8]) -> Ended
     requires { ⌜ (head ≡ fileAnswer (now file)) × (head .at ≡ C.At first) × (mostSteps * mostLine ≤ length (now out)) ⌝ }
     ensures { λ r. ⌜ Ran (now (file .entry)) (now (out .entry)) (now (out .exit)) r ⌝ }
@@ -148,7 +117,7 @@ fn run_steps(file: &[u8], head: HeaderRead, first: usize, out: &mut [u8]) -> End
 
 // ---- the file
 
-// "A program that reads a run file .. and prints the verdict": the listing of the file, written from the buffer's first byte on.
+// The listing of a file, written from the buffer's first byte on. The whole file is judged before the first step is tried.
 pub fn judge(file: &[u8], out: &mut [u8]) -> Written
     ensures { λ r. ⌜ Says (now (file .entry)) (now (out .entry)) (now (out .exit)) r ⌝ }
 {
@@ -162,11 +131,52 @@ pub fn judge(file: &[u8], out: &mut [u8]) -> Written
             let end = run_steps(file, head, place, out);
             let run = end.run;
             let count = put_last(out, end.at, run, end.number);
-            Written::Bytes { count: count }
+            Written::Bytes {
+                count: count,
+                number: end.number,
+                place: end.place as usize,
+            }
         }
         Cursor::Refused { number, place } => {
             let count = put_bad(out, 0, number, place);
-            Written::Bytes { count: count }
+            Written::Bytes {
+                count: count,
+                number: number,
+                place: place,
+            }
+        }
+    }
+}
+
+// For reviewers: the listing, and after it the final state
+pub fn inspect(file: &[u8], out: &mut [u8]) -> Written
+    ensures { λ r. ⌜ Shows (now (file .entry)) (now (out .entry)) (now (out .exit)) r ⌝ }
+{
+    if out.len() < MOST_INSPECTION {
+        return Written::Short;
+    }
+    let head = read_file(file);
+    let begin = head.at;
+    match begin {
+        Cursor::At { place } => {
+            let end = run_steps(file, head, place, out);
+            let run = end.run;
+            let table = end.table;
+            let last = put_last(out, end.at, run, end.number);
+            let count = put_state(out, last, run, table);
+            Written::Bytes {
+                count: count,
+                number: end.number,
+                place: end.place as usize,
+            }
+        }
+        Cursor::Refused { number, place } => {
+            let count = put_bad(out, 0, number, place);
+            Written::Bytes {
+                count: count,
+                number: number,
+                place: place,
+            }
         }
     }
 }

@@ -1,4 +1,4 @@
--- A file has one listing.
+-- A file has one listing, and judging it ends in one way.
 use mathlib.Core.Path.{_≡_, refl, ap, _∙_}
 use mathlib.Core.List.{List, [], _∷_, _++_}
 use Prim.Native.Nat.{ℕ}
@@ -10,8 +10,8 @@ use Rattle.calculus.proofs.Answers.{answer-unique}
 use Rattle.runfile.specs.Readers.{Got, got, bad}
 use Rattle.runfile.specs.File.{File}
 use Rattle.listing.specs.Lines.{badLine}
-use Rattle.listing.specs.Listing.{Tried, through, refused, went, badFile, goodFile}
-use Rattle.listing.specs.Claims.{PrintedOnce}
+use Rattle.listing.specs.Listing.{Tried, through, refused, went, badFile, goodFile, withFile, withStep}
+use Rattle.listing.specs.Claims.{EndsOnce, PrintedOnce}
 
 -- The same lines and the same last answer
 tried-once : (xs : List Step) {s : State} {n : ℕ} {v w : List ℕ} {e f : Answer} → Tried s n xs v e → Tried s n xs w f → (v ≡ w) × (e ≡ f)
@@ -38,3 +38,10 @@ printed-once after s v w (goodFile F k a e t) (badFile n p e′) = absurd (clash
 printed-once after s v w (goodFile F k {w = u} a e t) (goodFile F′ k′ {w = u′} a′ e′ t′) =
     let (lines, last) = tried-once (F′ .steps) (rw (same-file e e′) at t) t′ in
     ap (λ (b : List ℕ). b ++ after a) lines ∙ ap (λ (b : Answer). u′ ++ after b) last
+
+pub ends-once : EndsOnce
+ends-once s n p m q (withFile _ _ e) (withFile _ _ e′) = (cc, cc)
+ends-once s n p m q (withFile _ _ e) (withStep F k a e′ t′) = absurd (clash e e′)
+ends-once s n p m q (withStep F k a e t) (withFile _ _ e′) = absurd (clash e′ e)
+ends-once s n p m q (withStep F k a e t) (withStep F′ k′ a′ e′ t′) =
+    let last = tried-once (F′ .steps) (rw (same-file e e′) at t) t′ .1 in (ap (λ (b : Answer). b .number) last, ap (λ (b : Answer). b .place) last)

@@ -14,7 +14,7 @@ use Rattle.runfile.specs.File.{File, file}
 use Rattle.runfile.specs.Claims.{Outcome}
 use Rattle.rules.specs.Answers.{Reached}
 use Rattle.text.specs.Text.{bytes}
-use Rattle.listing.specs.Listing.{Printed, Listing, mostListing}
+use Rattle.listing.specs.Listing.{Printed, Listing, Ends, mostListing}
 
 -- Every file has a listing ..
 abbrev pub EveryFileListed : Type 0
@@ -23,6 +23,10 @@ EveryFileListed = (s : List ℕ) → (w : List ℕ) × Listing s w
 -- .. and only one, whatever is printed after the steps' lines.
 abbrev pub PrintedOnce : Type 0
 PrintedOnce = (after : Answer → List ℕ) (s v w : List ℕ) → Printed after s v → Printed after s w → v ≡ w
+
+-- It ends in one way.
+abbrev pub EndsOnce : Type 0
+EndsOnce = (s : List ℕ) (n p m q : ℕ) → Ends s n p → Ends s m q → (n ≡ m) × (p ≡ q)
 
 -- The listing of a file that a machine can hold has at most `mostListing` bytes.
 abbrev pub ListingFits : Type 0

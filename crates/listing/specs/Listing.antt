@@ -30,6 +30,12 @@ pub data Printed (after : Answer → List ℕ) (s : List ℕ) : List ℕ → Typ
 abbrev pub Listing : (file text : List ℕ) → Type 0
 Listing s w = Printed lastLine s w
 
+-- How judging a file ends: the number and place of the answer to the last step tried, which are 0 where it was accepted; of a bad file those
+-- of its refusal.
+pub data Ends (s : List ℕ) : (number place : ℕ) → Type 0 where
+  withFile : (number place : ℕ) → file s ≡ bad number place → Ends s number place
+  withStep : (F : File) (next : ℕ) {w : List ℕ} (e : Answer) → file s ≡ got F next → Tried (opened F) 1 (F .steps) w e → Ends s (e .number) (e .place)
+
 -- No listing is longer than its steps' lines, each as long as a line can be, and the last line.
 abbrev pub mostListing : ℕ
 mostListing = mostSteps * mostLine + mostLast

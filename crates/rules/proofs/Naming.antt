@@ -21,7 +21,7 @@ use Rattle.lists.specs.Arrays.{exactly}
 use Rattle.rules.specs.Answers.{RunOf, Told}
 use Rattle.rules.specs.Records.{withTrail}
 use Rattle.rules.specs.declared.Run.{Run}
-use Rattle.calculus.specs.Checks.{between}
+use Rattle.calculus.specs.Checks.{_or_, between, firstRefusal}
 use Rattle.calculus.specs.Clauses.{groundAtoms, noLiteral}
 use Rattle.calculus.specs.Rules.{clauseExists, decidedLiteral, instanceFits, isOne, literalExists, next}
 use Rattle.calculus.specs.States.{Decide, State, Step, clauseAt, clauses, conflictOf, stands}
@@ -103,6 +103,12 @@ pub and-true : (a b : Bool) → (a && b) ≡ true → (a ≡ true) × (b ≡ tru
 and-true true b e = (refl, e)
 and-true false b e = absurd (let z : _≡_ {A = ℕ} 0 1 = cc in omega arith)
 
+-- Neither 10 nor 11
+pub none-refused : (a b : Bool) → firstRefusal (a or noSuch ∷ b or alreadyDefined ∷ []) ≡ 0 → (a ≡ true) × (b ≡ true)
+none-refused true true e = (refl, refl)
+none-refused true false e = absurd (omega arith)
+none-refused false b e = absurd (omega arith)
+
 -- ---- Decide
 
 module _ {r : Run} {s : State} (R : RunOf r s) (k : Clause) (c l g : ℕ) (count : ℕ) (ι : List ℕ) (long : length ι ≡ 12) where
@@ -146,7 +152,7 @@ module _ {r : Run} {s : State} (R : RunOf r s) (k : Clause) (c l g : ℕ) (count
         named : {b : Bool} → Named ≡ b → (clauseExists (clauses s) c && (literalExists C l && instanceFits (s .constants) C τ)) ≡ b
         named h = sym (asked-is R k c looks (λ n D. literalExists D l && instanceFits n D τ)) ∙ h
 
-        pub decide-no-such : Named ≡ false → Told s x (record { run = r; number = noSuch; place = 0 })
+        decide-no-such : Named ≡ false → Told s x (record { run = r; number = noSuch; place = 0 })
         decide-no-such h = refused R x noSuch tt tt (λ b. simp (same, short, sign, free, named h))
 
         module _ (h₄ : Named ≡ true) (m : Literal) (m-is : m ≡ decidedLiteral (clauseOf k) (l - 1) (isOne g) τ) where
@@ -159,7 +165,7 @@ module _ {r : Run} {s : State} (R : RunOf r s) (k : Clause) (c l g : ℕ) (count
           open-yet : {b : Bool} → undefined (trailOf (r .trail) (r .length)) m ≡ b → undefined (s .trail) (decidedLiteral C (l - 1) (isOne g) τ) ≡ b
           open-yet {b} h = subst (λ (q : Literal). undefined (s .trail) q ≡ b) literal-is (subst (λ (t : Trail). undefined t m ≡ b) (stored R .says) h)
 
-          pub decide-defined : undefined (trailOf (r .trail) (r .length)) m ≡ false → Told s x (record { run = r; number = alreadyDefined; place = 0 })
+          decide-defined : undefined (trailOf (r .trail) (r .length)) m ≡ false → Told s x (record { run = r; number = alreadyDefined; place = 0 })
           decide-defined h = refused R x alreadyDefined tt tt (λ b. simp (same, short, sign, free, named h₄, open-yet h))
 
           module _ (h₅ : undefined (trailOf (r .trail) (r .length)) m ≡ true) (w : Grown) (grew : Grew w (foreground m (decided c l (isOne g) τ) ∷ trailOf (r .trail) (r .length))) where
@@ -180,3 +186,10 @@ module _ {r : Run} {s : State} (R : RunOf r s) (k : Clause) (c l g : ℕ) (count
                 _ (packed-as (next s (Decide c l g τ)) (constants-is R) (input-is R) (learned-is R) (omega (arith, level-is R)) h₃
                 (subst (λ (b : Bool). Stored (w .trail) (w .length) (cond b t′ [])) h (grew-is .holds))
                 (conflict-is R ∙ ap (λ (q : Option calculus.Instanced). packedInstanced (conflictOf q)) (no-conflict (s .conflict) free))))
+
+        -- 10 or 11, whichever is first
+        pub decide-unnamed : (m : Literal) → m ≡ decidedLiteral (clauseOf k) (l - 1) (isOne g) τ → (a b : Bool) → a ≡ Named → b ≡ undefined (trailOf (r .trail) (r .length)) m
+            → (n : ℕ) → n ≡ firstRefusal (a or noSuch ∷ b or alreadyDefined ∷ []) → ¬ (n ≡ 0) → Told s x (record { run = r; number = n; place = 0 })
+        decide-unnamed m m-is false b a-is b-is n n-is h = subst (λ (q : ℕ). Told s x (record { run = r; number = q; place = 0 })) (sym n-is) (decide-no-such (sym a-is))
+        decide-unnamed m m-is true false a-is b-is n n-is h = subst (λ (q : ℕ). Told s x (record { run = r; number = q; place = 0 })) (sym n-is) (decide-defined (sym a-is) m m-is (sym b-is))
+        decide-unnamed m m-is true true a-is b-is n n-is h = absurd (h n-is)

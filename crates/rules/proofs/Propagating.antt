@@ -1,7 +1,7 @@
 -- Propagate: each answer in terms of what the code has seen.
 use mathlib.Core.Path.{_∙_, _≡_, ap, subst, sym}
 use mathlib.Core.Logic.{_↔_}
-use mathlib.Core.List.{List, [], _++_}
+use mathlib.Core.List.{List, [], _++_, _∷_}
 use mathlib.Core.Option.{Option}
 use mathlib.Core.Bool.{Bool, _&&_, cond, false, true}
 use Prim.Native.Nat.{_+_, _-_, _<_, _≤_, ℕ}
@@ -20,7 +20,7 @@ use Rattle.rules.specs.Answers.{RunOf, Told}
 use Rattle.rules.specs.Records.{withTrail}
 use Rattle.rules.specs.declared.Run.{Run}
 use Rattle.rules.specs.declared.Stepped.{Stepped}
-use Rattle.calculus.specs.Checks.{between}
+use Rattle.calculus.specs.Checks.{_or_, between, firstRefusal}
 use Rattle.calculus.specs.Clauses.{ground, groundAtoms, noLiteral}
 use Rattle.calculus.specs.Rules.{clauseExists, instanceFits, literalExists, next, othersFalse, propagatedTrail, question}
 use Rattle.calculus.specs.States.{Propagate, State, Step, clauseAt, clauses, conflictOf, stands}
@@ -72,7 +72,7 @@ module _ {r : Run} {s : State} (R : RunOf r s) (k : Clause) (c l count : ℕ) (�
       named : {b : Bool} → Named ≡ b → (clauseExists (clauses s) c && (literalExists C l && instanceFits (s .constants) C τ)) ≡ b
       named h = sym (asked-is R k c looks (λ n D. literalExists D l && instanceFits n D τ)) ∙ h
 
-      pub propagate-no-such : Named ≡ false → Told s (Propagate c l (exactly count 0 ι)) (record { run = r; number = noSuch; place = 0 })
+      propagate-no-such : Named ≡ false → Told s (Propagate c l (exactly count 0 ι)) (record { run = r; number = noSuch; place = 0 })
       propagate-no-such h = given (refused R x noSuch tt tt (λ b. simp (short, free, named h)))
 
       module _ (h₃ : Named ≡ true) (m : Literal) (m-is : m ≡ ground τ (getD (clauseOf k .literals) (l - 1) noLiteral)) where
@@ -88,7 +88,7 @@ module _ {r : Run} {s : State} (R : RunOf r s) (k : Clause) (c l count : ℕ) (�
         open-yet : {b : Bool} → undefined (trailOf (r .trail) (r .length)) m ≡ b → undefined (s .trail) g ≡ b
         open-yet {b} h = subst (λ (q : Literal). undefined (s .trail) q ≡ b) own (carry R k c looks there (λ D t. undefined t m ≡ b) h)
 
-        pub propagate-defined : undefined (trailOf (r .trail) (r .length)) m ≡ false → Told s (Propagate c l (exactly count 0 ι)) (record { run = r; number = alreadyDefined; place = 0 })
+        propagate-defined : undefined (trailOf (r .trail) (r .length)) m ≡ false → Told s (Propagate c l (exactly count 0 ι)) (record { run = r; number = alreadyDefined; place = 0 })
         propagate-defined h = given (refused R x alreadyDefined tt tt (λ b. simp (short, free, named h₃, open-yet h)))
 
         module _ (h₄ : undefined (trailOf (r .trail) (r .length)) m ≡ true) (p : ℕ) (p-is : p ≡ firstNumber (passes true m (trailOf (r .trail) (r .length)) τ) (clauseOf k .literals)) where
@@ -130,3 +130,10 @@ module _ {r : Run} {s : State} (R : RunOf r s) (k : Clause) (c l count : ℕ) (�
                   _ (packed-as (next s x) (constants-is R) (input-is R) (learned-is R) (level-is R) h₂
                   (subst (λ (q : Bool). Stored (w .trail) (w .length) (cond q t′ [])) h (grew-is .holds))
                   (conflict-is R ∙ ap (λ (q : Option calculus.Instanced). packedInstanced (conflictOf q)) (no-conflict (s .conflict) free))))
+
+      -- 10 or 11, whichever is first
+      pub propagate-unnamed : (m : Literal) → m ≡ ground τ (getD (clauseOf k .literals) (l - 1) noLiteral) → (a b : Bool) → a ≡ Named → b ≡ undefined (trailOf (r .trail) (r .length)) m
+          → (n : ℕ) → n ≡ firstRefusal (a or noSuch ∷ b or alreadyDefined ∷ []) → ¬ (n ≡ 0) → Told s (Propagate c l (exactly count 0 ι)) (record { run = r; number = n; place = 0 })
+      propagate-unnamed m m-is false b a-is b-is n n-is h = subst (λ (q : ℕ). Told s (Propagate c l (exactly count 0 ι)) (record { run = r; number = q; place = 0 })) (sym n-is) (propagate-no-such (sym a-is))
+      propagate-unnamed m m-is true false a-is b-is n n-is h = subst (λ (q : ℕ). Told s (Propagate c l (exactly count 0 ι)) (record { run = r; number = q; place = 0 })) (sym n-is) (propagate-defined (sym a-is) m m-is (sym b-is))
+      propagate-unnamed m m-is true true a-is b-is n n-is h = absurd (h n-is)

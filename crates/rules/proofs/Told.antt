@@ -19,7 +19,7 @@ use Rattle.calculus.proofs.Trails.{possible-none}
 use Rattle.calculus.specs.Checks.{firstRefusal}
 use Rattle.calculus.specs.Rules.{Answer, Judged, answer, asks, next, notFalsePlace, question}
 use Rattle.calculus.specs.States.{State, Step}
-use Rattle.constraint.proofs.Decided.{possible-decided}
+use Rattle.bounds.proofs.Decided.{possible-decided}
 use Rattle.calculus.specs.Runs as runs
 
 -- Whether the atoms that a step asks for are possible is decided.

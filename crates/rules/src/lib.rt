@@ -8,10 +8,10 @@ ghost use lib.Dec.{eqb};
 ghost use lib.ListN.{length, take};
 ghost use Rattle.basis.specs.Limits.{mostVariables, mostInput, mostLearned};
 ghost use Rattle.basis.specs.Refusals as refusals;
-ghost use Rattle.basis.specs.Refusals.{notFalse};
+ghost use Rattle.basis.specs.Refusals.{alreadyDefined, noSuch, notFalse};
 ghost use Rattle.lists.specs.Arrays.{exactly};
 ghost use Rattle.lists.specs.Lists.{anyOf};
-ghost use Rattle.calculus.specs.Checks.{between};
+ghost use Rattle.calculus.specs.Checks.{_or_, between, firstRefusal};
 ghost use Rattle.calculus.specs.Clauses.{sameLiteral};
 ghost use Rattle.calculus.specs.Clauses as calculus;
 ghost use Rattle.calculus.specs.Rules.{literalExists, instanceFits, literalInstance, decidedLiteral, complementInConflict, otherInstances};
@@ -27,7 +27,9 @@ use basis::ALREADY_DEFINED;
 use basis::KEPT_NOT_POSSIBLE;
 use basis::Literal;
 use basis::MOST_CONSTANTS;
+use basis::MOST_ENTRIES;
 use basis::MOST_LEARNED;
+use basis::MOST_LITERALS;
 use basis::MOST_VARIABLES;
 use basis::NO_ENTRY;
 use basis::NO_ROOM;
@@ -76,7 +78,7 @@ pub struct Run {
     pub level: u8,
     pub length: u8,
     pub stands: bool,
-    pub trail: [Entry; 160],
+    pub trail: [Entry; MOST_ENTRIES],
     pub conflict: Instanced,
 }
 
@@ -96,8 +98,11 @@ pub struct Step {
     pub sign: u8,
     pub amount: u8,
     pub count: u8,
-    pub instance: [u8; 12],
+    pub instance: [u8; MOST_VARIABLES],
 }
+
+// "Instance" means variables replaced by constants: a constant for each variable, in order; slots past a count are not looked at.
+type Instance = [u8; MOST_VARIABLES];
 
 // ---- which numbers name something
 
@@ -122,7 +127,7 @@ fn literal_exists(c: Clause, l: u8) -> bool
 }
 
 // A constant for each variable, each among the constants
-fn instance_fits(constants: u8, c: Clause, instance: [u8; 12], count: u8) -> bool
+fn instance_fits(constants: u8, c: Clause, instance: Instance, count: u8) -> bool
     requires { ⌜ count ≤ mostVariables ⌝ }
     ensures { λ r. ⌜ r ≡ instanceFits constants (clauseOf c) (take count instance) ⌝ }
 {
@@ -145,7 +150,7 @@ fn instance_fits(constants: u8, c: Clause, instance: [u8; 12], count: u8) -> boo
 }
 
 // A clause, and an instance for it
-fn instance_named(run: Run, c: u8, clause: Clause, instance: [u8; 12], count: u8) -> bool
+fn instance_named(run: Run, c: u8, clause: Clause, instance: Instance, count: u8) -> bool
     requires { ⌜ (run .input ≤ mostInput) × (run .learned ≤ mostLearned) × (count ≤ mostVariables) ⌝ }
     ensures { λ r. ⌜ r ≡ (between 1 (run .input + run .learned) c && instanceFits (run .constants) (clauseOf clause) (take count instance)) ⌝ }
 {
@@ -156,7 +161,7 @@ fn instance_named(run: Run, c: u8, clause: Clause, instance: [u8; 12], count: u8
 }
 
 // .. and a literal of it
-fn literal_named(run: Run, c: u8, clause: Clause, l: u8, instance: [u8; 12], count: u8) -> bool
+fn literal_named(run: Run, c: u8, clause: Clause, l: u8, instance: Instance, count: u8) -> bool
     requires { ⌜ (run .input ≤ mostInput) × (run .learned ≤ mostLearned) × (count ≤ mostVariables) ⌝ }
     ensures { λ r. ⌜ r ≡ (between 1 (run .input + run .learned) c && (literalExists (clauseOf clause) l && instanceFits (run .constants) (clauseOf clause) (take count instance))) ⌝ }
 {
@@ -182,6 +187,19 @@ fn two_literals(n: Instanced, i: u8, j: u8) -> bool
     false
 }
 
+// "A step's reasons are tried in rising order": 10 where a number names nothing, then 11 where the literal is defined
+fn naming_refusal(named: bool, free: bool) -> u8
+    ensures { λ n. ⌜ n ≡ firstRefusal (named or noSuch ∷ free or alreadyDefined ∷ []) ⌝ }
+{
+    if !named {
+        return NO_SUCH;
+    }
+    if !free {
+        return ALREADY_DEFINED;
+    }
+    0
+}
+
 // The place of a number, from 0
 fn place_of(l: u8) -> usize
     ensures { λ r. ⌜ r ≡ l - 1 ⌝ }
@@ -195,7 +213,7 @@ fn place_of(l: u8) -> usize
 // ---- what the rules look at
 
 // "The atom of the literal, with the sign given"
-fn decided_literal(c: Clause, l: u8, positive: bool, instance: [u8; 12], count: u8) -> Literal
+fn decided_literal(c: Clause, l: u8, positive: bool, instance: Instance, count: u8) -> Literal
     ensures { λ r. ⌜ r ≡ decidedLiteral (clauseOf c) (l - 1) positive (take count instance) ⌝ }
 {
     let mut g = literal_instance(c, l, instance, count);
@@ -303,7 +321,7 @@ fn among(d: Instances, g: Literal) -> bool
     let n = count_of(d);
     let mut j: usize = 0;
     while j < n {
-        if 8 <= j {
+        if MOST_LITERALS <= j {
             return false;
         }
         let h = d.at[j];
@@ -515,7 +533,7 @@ impl Run {
         clause: Clause,
         l: u8,
         sign: u8,
-        instance: [u8; 12],
+        instance: Instance,
         count: u8,
     ) -> Stepped
         requires { ⌜ Handed self clause (Decide c l sign (exactly count 0 instance)) ⌝ }
@@ -530,15 +548,15 @@ impl Run {
         if self.stands {
             return refused(self, WRONG_MOMENT);
         }
-        if !literal_named(self, c, clause, l, instance, count) {
-            return refused(self, NO_SUCH);
-        }
-        let positive = sign == 1;
-        let g = decided_literal(clause, l, positive, instance, count);
         let trail = self.trail;
         let length = self.length;
-        if !undefined(trail, length, g) {
-            return refused(self, ALREADY_DEFINED);
+        let positive = sign == 1;
+        let named = literal_named(self, c, clause, l, instance, count);
+        let g = decided_literal(clause, l, positive, instance, count);
+        let free = undefined(trail, length, g);
+        let number = naming_refusal(named, free);
+        if number != 0 {
+            return refused(self, number);
         }
         let grown = push_decided(trail, length, g, c, l, positive, instance, count);
         if !grown.fits {
@@ -550,7 +568,7 @@ impl Run {
 
     // "3 Conflict (clause, instance). No conflict. All literals false; trail and clause atoms together possible. The clause becomes the
     // conflict."
-    pub fn conflict(self, c: u8, clause: Clause, instance: [u8; 12], count: u8) -> Stepped
+    pub fn conflict(self, c: u8, clause: Clause, instance: Instance, count: u8) -> Stepped
         requires { ⌜ Handed self clause (Conflict c (exactly count 0 instance)) ⌝ }
         ensures { λ a. ⌜ Answered self clause (Conflict c (exactly count 0 instance)) a ⌝ }
     {
@@ -588,7 +606,7 @@ impl Run {
 
     // "1 Propagate (clause, literal L, instance). No conflict. L's instance is undefined; every literal with another instance is false; trail
     // atoms and the clause's atoms together are possible. Appended: L, then the atoms not yet on the trail, in clause order, each once."
-    pub fn propagate(self, c: u8, clause: Clause, l: u8, instance: [u8; 12], count: u8) -> Stepped
+    pub fn propagate(self, c: u8, clause: Clause, l: u8, instance: Instance, count: u8) -> Stepped
         requires { ⌜ Handed self clause (Propagate c l (exactly count 0 instance)) ⌝ }
         ensures { λ a. ⌜ Answered self clause (Propagate c l (exactly count 0 instance)) a ⌝ }
     {
@@ -602,12 +620,10 @@ impl Run {
         let length = self.length;
         let named = literal_named(self, c, clause, l, instance, count);
         let g = literal_instance(clause, l, instance, count);
-        let open = undefined(held, length, g);
-        if !named {
-            return refused(self, NO_SUCH);
-        }
-        if !open {
-            return refused(self, ALREADY_DEFINED);
+        let free = undefined(held, length, g);
+        let number = naming_refusal(named, free);
+        if number != 0 {
+            return refused(self, number);
         }
         let place = first_not_false(held, length, clause, instance, count, true, g);
         if 0 < place {

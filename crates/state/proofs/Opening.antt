@@ -1,7 +1,7 @@
 -- What admission hands back is the record of an admitted state.
 use mathlib.Core.Path.{_∙_, _≡_, ap, refl, sym}
 use mathlib.Core.List.{List, List·Memᴰ·not-nil, [], _++_, append-nil, map}
-use mathlib.Core.Bool.{Bool, cond, false, true}
+use mathlib.Core.Bool.{Bool, cond}
 use Prim.Native.Nat.{ℕ}
 use native.Mathlib.Decide.{ℕ-discrete}
 use native.Mathlib.Omega.{arith}
@@ -43,45 +43,44 @@ offered-count arities count l = sym (length-map (exactly count (packed calculus.
 
 -- ---- the answer
 
+-- The state by the refusal's number
+made-accepted : (n constants : ℕ) (arities : List ℕ) (cs : List calculus.Clause) → n ≡ accepted → madeOf n constants arities cs ≡ fresh constants arities cs
+made-accepted n constants arities cs h = ap (λ (b : Bool). cond b (fresh constants arities cs) (fresh 0 [] [])) (eq-eqb n accepted h)
+
+made-refused : (n constants : ℕ) (arities : List ℕ) (cs : List calculus.Clause) → ¬ (n ≡ accepted) → madeOf n constants arities cs ≡ fresh 0 [] []
+made-refused n constants arities cs h = ap (λ (b : Bool). cond b (fresh constants arities cs) (fresh 0 [] [])) (ne-eqb n accepted h)
+
 module _ (constants : ℕ) (arities : List ℕ) (cs : List calculus.Clause) {t : TableAnswer} (e : t ≡ admission.tableAnswer constants arities cs) where
   number-is : t .number ≡ admissionRefusal constants arities cs .number
   unfolding admission.answered
   number-is = ap (λ (q : TableAnswer). q .number) e
 
-  place-is : t .place ≡ admissionRefusal constants arities cs .place
-  unfolding admission.answered
-  place-is = ap (λ (q : TableAnswer). q .place) e
-
   pub admitted : t .number ≡ accepted → Admitted (fresh constants arities cs)
   admitted h = admitted-exactly constants arities cs .0 (sym number-is ∙ h)
 
+  -- The table that is handed back, by whether there is a refusal
+  clauses-are : t .clauses ≡ cond (eqb (t .number) accepted) (admission.packedTable cs) (admission.packedTable [])
+  unfolding admission.answered
+  clauses-are = ap (λ (q : TableAnswer). q .clauses) e ∙ ap (λ (n : ℕ). cond (eqb n accepted) (admission.packedTable cs) (admission.packedTable [])) (sym number-is)
+
+  -- A record whose state is that of the refusal's number
+  opens : (r : State) → r ≡ packedState (madeOf (t .number) constants arities cs) → _≡_ {A = Opened} (record { state = r; number = t .number; place = t .place }) (opened constants arities cs)
+  unfolding opened admission.answered
+  opens r is = λ i. record { state = (is ∙ ap (λ (n : ℕ). packedState (madeOf n constants arities cs)) number-is) i; number = number-is i; place = e i .place }
+
   pub opens-accepted : t .number ≡ accepted → (count : ℕ) → count ≡ length cs → (r : State) → IsNew constants arities count (t .clauses) r
       → _≡_ {A = Opened} (record { state = r; number = t .number; place = t .place }) (opened constants arities cs)
-  unfolding opened admission.answered
-  opens-accepted h count n r new = λ i. record { state = (made ∙ sym chosen) i; number = number-is i; place = place-is i }
+  opens-accepted h count n r new = opens r (new cs read n (omega (arith, admitted h .few-clauses)) ∙ ap packedState (sym (made-accepted (t .number) constants arities cs h)))
     where
-      test : eqb (admissionRefusal constants arities cs .number) accepted ≡ true
-      test = eq-eqb (admissionRefusal constants arities cs .number) accepted (sym number-is ∙ h)
-
-      made : r ≡ packedState (fresh constants arities cs)
-      made = new cs (ap (λ (q : TableAnswer). q .clauses) e ∙ ap (λ (b : Bool). cond b (admission.packedTable cs) (admission.packedTable [])) test) n (omega (arith, admitted h .few-clauses))
-
-      chosen : packedState (madeOf (admissionRefusal constants arities cs .number) constants arities cs) ≡ packedState (fresh constants arities cs)
-      chosen = ap (λ (b : Bool). packedState (cond b (fresh constants arities cs) (fresh 0 [] []))) test
+      read : t .clauses ≡ admission.packedTable cs
+      read = clauses-are ∙ ap (λ (b : Bool). cond b (admission.packedTable cs) (admission.packedTable [])) (eq-eqb (t .number) accepted h)
 
   pub opens-refused : ¬ (t .number ≡ accepted) → (r : State) → IsNew 0 [] 0 (t .clauses) r
       → _≡_ {A = Opened} (record { state = r; number = t .number; place = t .place }) (opened constants arities cs)
-  unfolding opened admission.answered
-  opens-refused h r new = λ i. record { state = (made ∙ sym chosen) i; number = number-is i; place = place-is i }
+  opens-refused h r new = opens r (new [] blank refl (omega arith) ∙ ap packedState (sym (made-refused (t .number) constants arities cs h)))
     where
-      test : eqb (admissionRefusal constants arities cs .number) accepted ≡ false
-      test = ne-eqb (admissionRefusal constants arities cs .number) accepted (λ k. h (number-is ∙ k))
-
-      made : r ≡ packedState (fresh 0 [] [])
-      made = new [] (ap (λ (q : TableAnswer). q .clauses) e ∙ ap (λ (b : Bool). cond b (admission.packedTable cs) (admission.packedTable [])) test) refl (omega arith)
-
-      chosen : packedState (madeOf (admissionRefusal constants arities cs .number) constants arities cs) ≡ packedState (fresh 0 [] [])
-      chosen = ap (λ (b : Bool). packedState (cond b (fresh constants arities cs) (fresh 0 [] []))) test
+      blank : t .clauses ≡ admission.packedTable []
+      blank = clauses-are ∙ ap (λ (b : Bool). cond b (admission.packedTable cs) (admission.packedTable [])) (ne-eqb (t .number) accepted h)
 
 -- ---- what `step` takes for granted
 
@@ -102,21 +101,17 @@ module _ (constants : ℕ) (arities : List ℕ) (cs : List calculus.Clause) (a :
   unfolding opened
   refusal-is = ap (λ (q : Opened). q .number) e
 
-  state-is : a .state ≡ packedState (madeOf (admissionRefusal constants arities cs .number) constants arities cs)
+  state-is : a .state ≡ packedState (madeOf (a .number) constants arities cs)
   unfolding opened
-  state-is = ap (λ (q : Opened). q .state) e
+  state-is = ap (λ (q : Opened). q .state) e ∙ ap (λ (n : ℕ). packedState (madeOf n constants arities cs)) (sym refusal-is)
 
 pub admit-makes-states : AdmitMakesStates
 admit-makes-states constants arities cs a e h =
-    let n = sym (refusal-is constants arities cs a e) ∙ h in
-    let k = admitted-exactly constants arities cs .0 n in
-    let test = eq-eqb (admissionRefusal constants arities cs .number) accepted n in
-    (k, record { reached = admitted-reached (fresh constants arities cs) k; is = state-is constants arities cs a e ∙ ap (λ (b : Bool). packedState (cond b (fresh constants arities cs) (fresh 0 [] []))) test })
+    let k = admitted-exactly constants arities cs .0 (sym (refusal-is constants arities cs a e) ∙ h) in
+    (k, record { reached = admitted-reached (fresh constants arities cs) k; is = state-is constants arities cs a e ∙ ap packedState (made-accepted (a .number) constants arities cs h) })
 
 pub admit-keeps : AdmitKeeps
 admit-keeps constants arities cs a e = elim (ℕ-discrete (a .number) accepted) [
   | yes h ↦ (fresh constants arities cs, admit-makes-states constants arities cs a e h .1)
-  | no h ↦
-      let test = ne-eqb (admissionRefusal constants arities cs .number) accepted (λ k. h (refusal-is constants arities cs a e ∙ k)) in
-      (fresh 0 [] [], record { reached = admitted-reached (fresh 0 [] []) none-admitted; is = state-is constants arities cs a e ∙ ap (λ (b : Bool). packedState (cond b (fresh constants arities cs) (fresh 0 [] []))) test })
+  | no h ↦ (fresh 0 [] [], record { reached = admitted-reached (fresh 0 [] []) none-admitted; is = state-is constants arities cs a e ∙ ap packedState (made-refused (a .number) constants arities cs h) })
 ]

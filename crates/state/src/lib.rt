@@ -46,7 +46,7 @@ pub struct Opened {
 // ---- admission
 
 // A run of no steps
-fn new_run(constants: u8, input: u8) -> Run
+pub fn new_run(constants: u8, input: u8) -> Run
     ensures { λ r. ⌜ r ≡ newRun constants input ⌝ }
 {
     let trail = empty_trail();
@@ -79,7 +79,7 @@ fn first_arities(predicates: u8, arities: [u8; MOST_PREDICATES]) -> [u8; MOST_PR
 }
 
 // The input clauses, and room for the learned ones
-fn with_room(clauses: [Clause; MOST_INPUT]) -> [Clause; MOST_CLAUSES]
+pub fn with_room(clauses: [Clause; MOST_INPUT]) -> [Clause; MOST_CLAUSES]
     ensures { λ r. ⌜ r ≡ exactly mostClauses (packed calculus.noClause) clauses ⌝ }
 {
     let blank = no_clause();

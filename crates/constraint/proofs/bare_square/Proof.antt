@@ -9,7 +9,8 @@ use borrow.Author.Needs.{needs}
 use Rattle.lists.specs.Walk.{Upto}
 use Rattle.lists.proofs.Walk.{upto-none, upto-set}
 use Rattle.constraint.specs.Square.{places, far, at}
-use Rattle.constraint.proofs.Bare.{bare, bare-stands, bare-row}
+use Rattle.bounds.proofs.Bare.{bare}
+use Rattle.constraint.proofs.Bare.{bare-stands, bare-row}
 use Rattle.constraint.proofs.bare_square.Statement.{statement}
 use Rattle.constraint.proofs.bare_square.Tie as tie
 

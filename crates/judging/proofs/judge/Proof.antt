@@ -19,6 +19,9 @@ run-steps-requires c κs = search needs
 put-last-requires : tie.Need-put-last-requires
 put-last-requires c κs = search needs
 
+cast-t19 : tie.Need-cast-t19
+cast-t19 c = search needs
+
 enum-known-begin-2 : tie.Need-enum-known-begin-2
 enum-known-begin-2 c = search needs
 
@@ -29,13 +32,13 @@ same-length : tie.Need-same-length
 same-length c = search needs
 
 returns-2 : tie.Need-returns-2
-returns-2 c = says-run (search needs) (c .before .before .before .before .before .before .before .run-steps .ensures) (c .before .before .put-last .ensures)
+returns-2 c = says-run (search needs) (c .before .before .before .before .before .before .before .before .run-steps .ensures) (search needs) (search needs) (c .before .before .before .put-last .ensures)
 
 same-length-2 : tie.Need-same-length-2
 same-length-2 c = search needs
 
 returns-3 : tie.Need-returns-3
-returns-3 c = leaves-bad (search needs) (c .before .before .before .before .before .before .before .read-file .result) (c .before .before .before .before .before .begin2 .given .0 .0) (c .before .before .before .before .before .begin2 .given .0 .1 .0) (c .before .before .before .before .before .before .before .read-file .ensures) (c .before .before .before .before .before .begin2 .given .1) (search needs) (search needs) (search needs) (c .before .before .put-bad .ensures)
+returns-3 c = leaves-bad (search needs) (c .before .before .before .before .before .before .before .read-file .result) (c .before .before .before .before .before .before .before .read-file .ensures) (c .before .before .before .before .before .begin2 .given .1) (search needs) (search needs) (search needs) (c .before .before .put-bad .ensures)
 
 pub judge-spec : {M : Type 1} → statement M
 judge-spec =
@@ -46,6 +49,7 @@ judge-spec =
     enum-known-begin
     run-steps-requires
     put-last-requires
+    cast-t19
     enum-known-begin-2
     put-bad-requires
     same-length

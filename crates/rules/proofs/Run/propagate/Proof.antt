@@ -1,8 +1,9 @@
 use native.Mathlib.Omega.{arith}
 use mathlib.Core.Path.{sym, _∙_}
+use Rattle.rules.proofs.Naming.{none-refused}
 use Rattle.rules.proofs.Parts.{off, on}
 use Rattle.rules.proofs.Runs.{kept-small}
-use Rattle.rules.proofs.Propagating.{propagate-long, propagate-standing, propagate-no-such, propagate-defined, propagate-not-false, propagate-impossible, propagate-no-room, propagate-accepted}
+use Rattle.rules.proofs.Propagating.{propagate-long, propagate-standing, propagate-unnamed, propagate-not-false, propagate-impossible, propagate-no-room, propagate-accepted}
 use borrow.Author.Needs.{needs}
 use Rattle.rules.proofs.Run.propagate.Statement.{statement}
 use Rattle.rules.proofs.Run.propagate.Tie as tie
@@ -28,17 +29,14 @@ literal-instance-requires c κs = search needs
 undefined-requires : tie.Need-undefined-requires
 undefined-requires c κs = kept-small (c .before .before .before .before .before .pre .0, c .before .before .before .before .before .pre .1) .few-entries
 
+naming-refusal-requires : tie.Need-naming-refusal-requires
+naming-refusal-requires c κs = search needs
+
 refused-requires-3 : tie.Need-refused-requires-3
 refused-requires-3 c κs = search needs
 
 returns-3 : tie.Need-returns-3
-returns-3 c = rw (c .refused3 .ensures) (λ s R looks. propagate-no-such R (c .before .before .before .before .before .before .before .before .args .clause) _ _ _ (c .before .before .before .before .before .before .before .before .args .instance) (let g = c .before .before .before .before .before .before .before .before .good .1 .1 .1 .1 .0 in search needs) (c .before .before .before .before .before .before .before .if1 .left) (c .before .before .before .before .before .before .if2 .left) looks (sym (c .before .before .before .before .literal-named .ensures) ∙ off _ (c .before .if3 .taken)))
-
-refused-requires-4 : tie.Need-refused-requires-4
-refused-requires-4 c κs = search needs
-
-returns-4 : tie.Need-returns-4
-returns-4 c = rw (c .refused4 .ensures) (λ s R looks. propagate-defined R (c .before .before .before .before .before .before .before .before .before .args .clause) _ _ _ (c .before .before .before .before .before .before .before .before .before .args .instance) (let g = c .before .before .before .before .before .before .before .before .before .good .1 .1 .1 .1 .0 in search needs) (c .before .before .before .before .before .before .before .before .if1 .left) (c .before .before .before .before .before .before .before .if2 .left) looks (sym (c .before .before .before .before .before .literal-named .ensures) ∙ on _ (c .before .before .if3 .left)) _ (c .before .before .before .before .literal-instance .ensures) (sym (c .before .before .before .undefined .ensures) ∙ off _ (c .before .if4 .taken)))
+returns-3 c = rw (c .refused3 .ensures) (λ s R looks. propagate-unnamed R (c .before .before .before .before .before .before .before .before .before .args .clause) _ _ _ (c .before .before .before .before .before .before .before .before .before .args .instance) (let g = c .before .before .before .before .before .before .before .before .before .good .1 .1 .1 .1 .0 in search needs) (c .before .before .before .before .before .before .before .before .if1 .left) (c .before .before .before .before .before .before .before .if2 .left) looks _ (c .before .before .before .before .literal-instance .ensures) _ _ (c .before .before .before .before .before .literal-named .ensures) (c .before .before .before .undefined .ensures) _ (c .before .before .naming-refusal .ensures) (c .before .if3 .taken))
 
 first-not-false-requires : tie.Need-first-not-false-requires
 first-not-false-requires c κs = kept-small (c .before .before .before .before .before .before .before .before .pre .0, c .before .before .before .before .before .before .before .before .pre .1) .few-entries
@@ -46,26 +44,26 @@ first-not-false-requires c κs = kept-small (c .before .before .before .before .
 refused-at-requires : tie.Need-refused-at-requires
 refused-at-requires c κs = search needs
 
-returns-5 : tie.Need-returns-5
-returns-5 c = rw (c .refused-at .ensures) (λ s R looks. propagate-not-false R (c .before .before .before .before .before .before .before .before .before .before .before .args .clause) _ _ _ (c .before .before .before .before .before .before .before .before .before .before .before .args .instance) (let g = c .before .before .before .before .before .before .before .before .before .before .before .good .1 .1 .1 .1 .0 in search needs) (c .before .before .before .before .before .before .before .before .before .before .if1 .left) (c .before .before .before .before .before .before .before .before .before .if2 .left) looks (sym (c .before .before .before .before .before .before .before .literal-named .ensures) ∙ on _ (c .before .before .before .before .if3 .left)) _ (c .before .before .before .before .before .before .literal-instance .ensures) (sym (c .before .before .before .before .before .undefined .ensures) ∙ on _ (c .before .before .before .if4 .left)) _ (c .before .before .first-not-false .ensures) (c .before .if5 .taken))
+returns-4 : tie.Need-returns-4
+returns-4 c = let h = none-refused _ _ (sym (c .before .before .before .before .naming-refusal .ensures) ∙ c .before .before .before .if3 .left) in rw (c .refused-at .ensures) (λ s R looks. propagate-not-false R (c .before .before .before .before .before .before .before .before .before .before .before .args .clause) _ _ _ (c .before .before .before .before .before .before .before .before .before .before .before .args .instance) (let g = c .before .before .before .before .before .before .before .before .before .before .before .good .1 .1 .1 .1 .0 in search needs) (c .before .before .before .before .before .before .before .before .before .before .if1 .left) (c .before .before .before .before .before .before .before .before .before .if2 .left) looks (sym (c .before .before .before .before .before .before .before .literal-named .ensures) ∙ h .0) _ (c .before .before .before .before .before .before .literal-instance .ensures) (sym (c .before .before .before .before .before .undefined .ensures) ∙ h .1) _ (c .before .before .first-not-false .ensures) (c .before .if4 .taken))
 
 possible-requires : tie.Need-possible-requires
 possible-requires c κs = let h = kept-small (c .before .before .before .before .before .before .before .before .before .before .pre .0, c .before .before .before .before .before .before .before .before .before .before .pre .1) in omega (arith, h .few-entries)
+
+refused-requires-4 : tie.Need-refused-requires-4
+refused-requires-4 c κs = search needs
+
+returns-5 : tie.Need-returns-5
+returns-5 c = let h = none-refused _ _ (sym (c .before .before .before .before .before .before .naming-refusal .ensures) ∙ c .before .before .before .before .before .if3 .left) in rw (c .refused4 .ensures) (λ s R looks. propagate-impossible R (c .before .before .before .before .before .before .before .before .before .before .before .before .before .args .clause) _ _ _ (c .before .before .before .before .before .before .before .before .before .before .before .before .before .args .instance) (let g = c .before .before .before .before .before .before .before .before .before .before .before .before .before .good .1 .1 .1 .1 .0 in search needs) (c .before .before .before .before .before .before .before .before .before .before .before .before .if1 .left) (c .before .before .before .before .before .before .before .before .before .before .before .if2 .left) looks (sym (c .before .before .before .before .before .before .before .before .before .literal-named .ensures) ∙ h .0) _ (c .before .before .before .before .before .before .before .before .literal-instance .ensures) (sym (c .before .before .before .before .before .before .before .undefined .ensures) ∙ h .1) _ (c .before .before .before .before .first-not-false .ensures) (c .before .before .before .if4 .left) (c .before .before .possible .result) (c .before .before .possible .ensures) (off _ (c .before .if5 .taken)))
+
+append-propagated-requires : tie.Need-append-propagated-requires
+append-propagated-requires c κs = kept-small (c .before .before .before .before .before .before .before .before .before .before .before .before .pre .0, c .before .before .before .before .before .before .before .before .before .before .before .before .pre .1) .trail-held
 
 refused-requires-5 : tie.Need-refused-requires-5
 refused-requires-5 c κs = search needs
 
 returns-6 : tie.Need-returns-6
-returns-6 c = rw (c .refused5 .ensures) (λ s R looks. propagate-impossible R (c .before .before .before .before .before .before .before .before .before .before .before .before .before .args .clause) _ _ _ (c .before .before .before .before .before .before .before .before .before .before .before .before .before .args .instance) (let g = c .before .before .before .before .before .before .before .before .before .before .before .before .before .good .1 .1 .1 .1 .0 in search needs) (c .before .before .before .before .before .before .before .before .before .before .before .before .if1 .left) (c .before .before .before .before .before .before .before .before .before .before .before .if2 .left) looks (sym (c .before .before .before .before .before .before .before .before .before .literal-named .ensures) ∙ on _ (c .before .before .before .before .before .before .if3 .left)) _ (c .before .before .before .before .before .before .before .before .literal-instance .ensures) (sym (c .before .before .before .before .before .before .before .undefined .ensures) ∙ on _ (c .before .before .before .before .before .if4 .left)) _ (c .before .before .before .before .first-not-false .ensures) (c .before .before .before .if5 .left) (c .before .before .possible .result) (c .before .before .possible .ensures) (off _ (c .before .if6 .taken)))
-
-append-propagated-requires : tie.Need-append-propagated-requires
-append-propagated-requires c κs = kept-small (c .before .before .before .before .before .before .before .before .before .before .before .before .pre .0, c .before .before .before .before .before .before .before .before .before .before .before .before .pre .1) .trail-held
-
-refused-requires-6 : tie.Need-refused-requires-6
-refused-requires-6 c κs = search needs
-
-returns-7 : tie.Need-returns-7
-returns-7 c = rw (c .refused6 .ensures) (λ s R looks. propagate-no-room R (c .before .before .before .before .before .before .before .before .before .before .before .before .before .before .before .before .args .clause) _ _ _ (c .before .before .before .before .before .before .before .before .before .before .before .before .before .before .before .before .args .instance) (let g = c .before .before .before .before .before .before .before .before .before .before .before .before .before .before .before .before .good .1 .1 .1 .1 .0 in search needs) (c .before .before .before .before .before .before .before .before .before .before .before .before .before .before .before .if1 .left) (c .before .before .before .before .before .before .before .before .before .before .before .before .before .before .if2 .left) looks (sym (c .before .before .before .before .before .before .before .before .before .before .before .before .literal-named .ensures) ∙ on _ (c .before .before .before .before .before .before .before .before .before .if3 .left)) _ (c .before .before .before .before .before .before .before .before .before .before .before .literal-instance .ensures) (sym (c .before .before .before .before .before .before .before .before .before .before .undefined .ensures) ∙ on _ (c .before .before .before .before .before .before .before .before .if4 .left)) _ (c .before .before .before .before .before .before .before .first-not-false .ensures) (c .before .before .before .before .before .before .if5 .left) (c .before .before .before .before .before .possible .result) (c .before .before .before .before .before .possible .ensures) (on _ (c .before .before .before .before .if6 .left)) (c .before .before .before .append-propagated .result) (c .before .before .before .append-propagated .ensures) (off _ (c .before .if7 .taken)))
+returns-6 c = let h = none-refused _ _ (sym (c .before .before .before .before .before .before .before .before .before .naming-refusal .ensures) ∙ c .before .before .before .before .before .before .before .before .if3 .left) in rw (c .refused5 .ensures) (λ s R looks. propagate-no-room R (c .before .before .before .before .before .before .before .before .before .before .before .before .before .before .before .before .args .clause) _ _ _ (c .before .before .before .before .before .before .before .before .before .before .before .before .before .before .before .before .args .instance) (let g = c .before .before .before .before .before .before .before .before .before .before .before .before .before .before .before .before .good .1 .1 .1 .1 .0 in search needs) (c .before .before .before .before .before .before .before .before .before .before .before .before .before .before .before .if1 .left) (c .before .before .before .before .before .before .before .before .before .before .before .before .before .before .if2 .left) looks (sym (c .before .before .before .before .before .before .before .before .before .before .before .before .literal-named .ensures) ∙ h .0) _ (c .before .before .before .before .before .before .before .before .before .before .before .literal-instance .ensures) (sym (c .before .before .before .before .before .before .before .before .before .before .undefined .ensures) ∙ h .1) _ (c .before .before .before .before .before .before .before .first-not-false .ensures) (c .before .before .before .before .before .before .if4 .left) (c .before .before .before .before .before .possible .result) (c .before .before .before .before .before .possible .ensures) (on _ (c .before .before .before .before .if5 .left)) (c .before .before .before .append-propagated .result) (c .before .before .before .append-propagated .ensures) (off _ (c .before .if6 .taken)))
 
 with-trail-requires : tie.Need-with-trail-requires
 with-trail-requires c κs = search needs
@@ -73,8 +71,8 @@ with-trail-requires c κs = search needs
 accepted-requires : tie.Need-accepted-requires
 accepted-requires c κs = search needs
 
-returns-8 : tie.Need-returns-8
-returns-8 c = rw (c .accepted .ensures, c .before .with-trail .ensures) (λ s R looks. propagate-accepted R (c .before .before .before .before .before .before .before .before .before .before .before .before .before .before .before .before .before .args .clause) _ _ _ (c .before .before .before .before .before .before .before .before .before .before .before .before .before .before .before .before .before .args .instance) (let g = c .before .before .before .before .before .before .before .before .before .before .before .before .before .before .before .before .before .good .1 .1 .1 .1 .0 in search needs) (c .before .before .before .before .before .before .before .before .before .before .before .before .before .before .before .before .if1 .left) (c .before .before .before .before .before .before .before .before .before .before .before .before .before .before .before .if2 .left) looks (sym (c .before .before .before .before .before .before .before .before .before .before .before .before .before .literal-named .ensures) ∙ on _ (c .before .before .before .before .before .before .before .before .before .before .if3 .left)) _ (c .before .before .before .before .before .before .before .before .before .before .before .before .literal-instance .ensures) (sym (c .before .before .before .before .before .before .before .before .before .before .before .undefined .ensures) ∙ on _ (c .before .before .before .before .before .before .before .before .before .if4 .left)) _ (c .before .before .before .before .before .before .before .before .first-not-false .ensures) (c .before .before .before .before .before .before .before .if5 .left) (c .before .before .before .before .before .before .possible .result) (c .before .before .before .before .before .before .possible .ensures) (on _ (c .before .before .before .before .before .if6 .left)) (c .before .before .before .before .append-propagated .result) (c .before .before .before .before .append-propagated .ensures) (on _ (c .before .before .if7 .left)))
+returns-7 : tie.Need-returns-7
+returns-7 c = let h = none-refused _ _ (sym (c .before .before .before .before .before .before .before .before .before .before .naming-refusal .ensures) ∙ c .before .before .before .before .before .before .before .before .before .if3 .left) in rw (c .accepted .ensures, c .before .with-trail .ensures) (λ s R looks. propagate-accepted R (c .before .before .before .before .before .before .before .before .before .before .before .before .before .before .before .before .before .args .clause) _ _ _ (c .before .before .before .before .before .before .before .before .before .before .before .before .before .before .before .before .before .args .instance) (let g = c .before .before .before .before .before .before .before .before .before .before .before .before .before .before .before .before .before .good .1 .1 .1 .1 .0 in search needs) (c .before .before .before .before .before .before .before .before .before .before .before .before .before .before .before .before .if1 .left) (c .before .before .before .before .before .before .before .before .before .before .before .before .before .before .before .if2 .left) looks (sym (c .before .before .before .before .before .before .before .before .before .before .before .before .before .literal-named .ensures) ∙ h .0) _ (c .before .before .before .before .before .before .before .before .before .before .before .before .literal-instance .ensures) (sym (c .before .before .before .before .before .before .before .before .before .before .before .undefined .ensures) ∙ h .1) _ (c .before .before .before .before .before .before .before .before .first-not-false .ensures) (c .before .before .before .before .before .before .before .if4 .left) (c .before .before .before .before .before .before .possible .result) (c .before .before .before .before .before .before .possible .ensures) (on _ (c .before .before .before .before .before .if5 .left)) (c .before .before .before .before .append-propagated .result) (c .before .before .before .before .append-propagated .ensures) (on _ (c .before .before .if6 .left)))
 
 pub propagate-spec : {M : Type 1} → statement M
 propagate-spec =
@@ -87,19 +85,18 @@ propagate-spec =
     literal-named-requires
     literal-instance-requires
     undefined-requires
+    naming-refusal-requires
     refused-requires-3
     returns-3
-    refused-requires-4
-    returns-4
     first-not-false-requires
     refused-at-requires
-    returns-5
+    returns-4
     possible-requires
+    refused-requires-4
+    returns-5
+    append-propagated-requires
     refused-requires-5
     returns-6
-    append-propagated-requires
-    refused-requires-6
-    returns-7
     with-trail-requires
     accepted-requires
-    returns-8)
+    returns-7)

@@ -1,5 +1,5 @@
 -- Whether atoms are possible is decided, whatever they are: by a square of as many places as they name, whose bounds start far enough apart.
--- The test's own square has 17 places and takes proper atoms only; a step that is refused before its atoms are tested may name others.
+-- A step that is refused before its atoms are tested may name any.
 use mathlib.Core.Path.{_≡_, ap, refl, subst, sym}
 use mathlib.Core.Logic.{_↔_, _⊎_, inl, inr}
 use mathlib.Core.List.{List, List·Memᴰ, List·Memᴰ·append-cases, List·Memᴰ·cases-cons, List·Memᴰ·head, List·Memᴰ·not-nil, List·Memᴰ·tail, Memᴰ·append-left, Memᴰ·append-right, [], _++_, _∷_}
@@ -8,19 +8,17 @@ use Prim.Native.Nat.{_*_, _+_, _<_, _≤_, suc, zero, ℕ}
 use native.Mathlib.Decide.{ℕ-discrete}
 use native.Mathlib.Omega.{arith}
 use lib.IntN.{+ℤ-invr, _+ℤ_, _-ℤ_, negsuc, pos, ℤ}
-use lib.Signed.{_<ℤ_, _≤ℤ_, ltZ}
+use lib.Signed.{ltZ}
 use Rattle.basis.specs.Atoms.{Possible}
 use Rattle.basis.specs.Numbers.{whole}
 use Rattle.basis.specs.declared.Atom.{Atom}
 use Rattle.bounds.proofs.Draw.{drawn}
 use Rattle.bounds.proofs.Put.{put-closed, put-exact, put-none}
 use Rattle.bounds.proofs.Values.{values-largest}
 use Rattle.bounds.specs.Squares.{Closed, Keeps, KeepsAll, put, values}
 use Rattle.bounds.specs.Whole.{Together, wholeBounds}
-use Rattle.constraint.proofs.Answers.{shifted-holds, shifted-rises}
-use Rattle.constraint.proofs.Bare.{bare, bare-closed, bare-kept, near-of}
-use Rattle.integers.proofs.Linear.{lt→, sum, →le}
-use Rattle.integers.proofs.Order.{by-sum}
+use Rattle.bounds.proofs.Bare.{bare, bare-closed, bare-kept, near-of}
+use Rattle.integers.proofs.Order.{by-order, by-sum, shifted-holds, shifted-rises}
 use Rattle.integers.specs.Sides.{Within, over, under}
 
 -- ---- a square for any places and any far bound
@@ -157,9 +155,6 @@ module _ (n : ℕ) (az : List Atom) where
     where
       near : (w : ℕ → ℤ) × Together (suc m) (largest bounds) (P .value) w
       near = drawn (suc m) (largest bounds) (P .value)
-
-      by-order : (x y : ℤ) → x <ℤ y → x ≤ℤ (negsuc 0 +ℤ y)
-      by-order x y h = →le x (negsuc 0 +ℤ y) (omega (arith, lt→ h, sum (negsuc 0) y))
 
       holds : (a : Atom) → List·Memᴰ a (ordering n) ⊎ List·Memᴰ a az → Keeps wholeBounds (P .value) (a .p) (a .q) (a .c)
       holds a (inl k) = let (i, l, h, e) = ordering-out n a k in subst (λ (x : Atom). Keeps wholeBounds (P .value) (x .p) (x .q) (x .c)) (sym e) (by-order (P .value i) (P .value (suc i)) (P .rising i l h))

@@ -1,0 +1,2 @@
+-- Why the numbers are unique.
+pub mod Unique
