@@ -1,12 +1,14 @@
 //! An independent checker of SCL(T) run files, in plain Rust, written from document 01.
 //!
 //! The checker: [`clause`], [`constraint`], [`merge`], [`state`], [`step`], [`rules`] are the
-//! calculus, [`file`] and [`admission`] its two ways in, [`listing`] what is printed.
+//! calculus, [`file`] and [`admission`] its two ways in, [`listing`] what is printed; [`cases`] are offered
+//! by the second way.
 //!
 //! The tests of others: [`generate`] makes run files, [`coverage`] counts what they come to, [`smt`] puts
 //! questions to a solver.
 
 pub mod admission;
+pub mod cases;
 pub mod clause;
 pub mod constraint;
 pub mod coverage;

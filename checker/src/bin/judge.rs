@@ -1,6 +1,7 @@
 //! `check`: reads a run file from standard input and prints the listing; with the word `inspect` the
-//! listing and then the final state.
+//! listing and then the final state. With the word `cases` it reads cases and prints what they come to.
 
+use checker::cases::answers;
 use checker::limits;
 use checker::listing::{inspection, listing};
 use std::io::{self, Read, Write};
@@ -12,8 +13,9 @@ fn main() -> ExitCode {
     let print = match words[..] {
         [] => listing,
         ["inspect"] => inspection,
+        ["cases"] => answers,
         _ => {
-            eprintln!("usage: check [inspect] < run-file");
+            eprintln!("usage: check [inspect | cases] < file");
             return ExitCode::FAILURE;
         }
     };

@@ -1,8 +1,8 @@
-// Runs merging and admission on a table of cases: standard input has a case to a line, standard output its name and what came of it.
+// Runs merging and admission on a table of cases: standard input has the cases, standard output the name of each and what came of it.
 // A case is a name, what is done (1 the reason, 4 the resolvent, 5 the factored conflict, 0 a clause admitted, 9 a table admitted) and its
-// clauses. A clause is its three counts, its atoms as 1-0<=5, its literals as -1(1,2,0) and its instance, parted by bars.
-// Literals are numbered from 0. A line that starts with # is passed over.
+// clauses. Literals are numbered from 0. A line that starts with # is passed over.
 ghost use mathlib.Core.Path.{_≡_};
+ghost use Prim.Native.Nat.{_≤_};
 ghost use lib.ListN.{length};
 ghost use Rattle.basis.specs.Limits.{mostAtoms, mostLiterals};
 use basis::Atom;
@@ -10,263 +10,23 @@ use basis::Literal;
 use basis::MOST_ATOMS;
 use basis::MOST_INPUT;
 use basis::MOST_LITERALS;
-use basis::MOST_PREDICATES;
 use basis::MOST_VARIABLES;
+use cases::arities_at;
+use cases::clause_at;
+use cases::clauses_at;
+use cases::is_comment;
+use cases::name_end;
+use cases::next_case;
+use cases::number;
+use cases::small;
 use clauses::Clause;
 use clauses::Instanced;
 use libc::STDOUT_FILENO;
 use merging::Merged;
 
-// A number of the text, and where the text goes on
-struct Read {
-    value: u32,
-    negative: bool,
-    next: usize,
-}
-
-struct Atoms {
-    list: [Atom; MOST_ATOMS],
-    next: usize,
-}
-
-struct Literals {
-    list: [Literal; MOST_LITERALS],
-    next: usize,
-}
-
-struct Constants {
-    list: [u8; MOST_VARIABLES],
-    next: usize,
-}
-
-struct Arities {
-    list: [u8; MOST_PREDICATES],
-    next: usize,
-}
-
-struct Given {
-    clause: Clause,
-    instance: [u8; MOST_VARIABLES],
-    next: usize,
-}
-
-// ---- reading
-
-fn byte(s: &[u8], i: usize) -> u8 {
-    if i < s.len() { s[i] } else { b'\n' }
-}
-
-fn after(s: &[u8], i: usize) -> usize {
-    if i < s.len() { i + 1 } else { i }
-}
-
-fn is_digit(b: u8) -> bool {
-    if b < b'0' {
-        return false;
-    }
-    b <= b'9'
-}
-
-// Whether something begins at the byte: a number, a bar or the next line
-fn begins(b: u8) -> bool {
-    if b == b'-' {
-        return true;
-    }
-    if b == b'|' {
-        return true;
-    }
-    if b == b'\n' {
-        return true;
-    }
-    is_digit(b)
-}
-
-// Where the next thing begins
-fn skipped(s: &[u8], at: usize) -> usize {
-    let mut i = at;
-    while i < s.len() {
-        if begins(s[i]) {
-            return i;
-        }
-        i += 1;
-    }
-    i
-}
-
-fn digits(s: &[u8], at: usize, negative: bool) -> Read {
-    let mut value: u32 = 0;
-    let mut i = at;
-    while i < s.len() {
-        let b = s[i];
-        if !is_digit(b) {
-            return Read {
-                value: value,
-                negative: negative,
-                next: i,
-            };
-        }
-        value = (value % 100000000) * 10 + ((b % 16) as u32);
-        i += 1;
-    }
-    Read {
-        value: value,
-        negative: negative,
-        next: i,
-    }
-}
-
-fn number(s: &[u8], at: usize) -> Read {
-    let i = skipped(s, at);
-    let b = byte(s, i);
-    if b == b'-' {
-        return digits(s, after(s, i), true);
-    }
-    digits(s, i, false)
-}
-
-fn small(n: Read) -> u8 {
-    (n.value % 256) as u8
-}
-
-fn signed(value: u32, negative: bool) -> i32 {
-    let size = (value % 2147483648) as i32;
-    if negative { -size } else { size }
-}
-
-// Whether another number of the same list follows
-fn more(s: &[u8], at: usize) -> bool {
-    let b = byte(s, skipped(s, at));
-    if b == b'|' {
-        return false;
-    }
-    b != b'\n'
-}
-
-// Past the bar that ends a list
-fn past_bar(s: &[u8], at: usize) -> usize {
-    let i = skipped(s, at);
-    if byte(s, i) == b'|' {
-        return after(s, i);
-    }
-    i
-}
-
-fn atoms_at(s: &[u8], at: usize) -> Atoms {
-    let none = Atom { p: 0, q: 0, c: 0 };
-    let mut list = [none; MOST_ATOMS];
-    let mut next = at;
-    for k in 0..MOST_ATOMS {
-        if more(s, next) {
-            let p = number(s, next);
-            let q = number(s, p.next);
-            let c = number(s, q.next);
-            let a = Atom {
-                p: small(p),
-                q: small(q),
-                c: signed(c.value, c.negative),
-            };
-            list[k] = a;
-            next = c.next;
-        }
-    }
-    Atoms {
-        list: list,
-        next: past_bar(s, next),
-    }
-}
-
-fn literals_at(s: &[u8], at: usize) -> Literals {
-    let none = Literal {
-        positive: false,
-        predicate: 0,
-        x: 0,
-        y: 0,
-        z: 0,
-    };
-    let mut list = [none; MOST_LITERALS];
-    let mut next = at;
-    for k in 0..MOST_LITERALS {
-        if more(s, next) {
-            let p = number(s, next);
-            let x = number(s, p.next);
-            let y = number(s, x.next);
-            let z = number(s, y.next);
-            let l = Literal {
-                positive: !p.negative,
-                predicate: small(p),
-                x: small(x),
-                y: small(y),
-                z: small(z),
-            };
-            list[k] = l;
-            next = z.next;
-        }
-    }
-    Literals {
-        list: list,
-        next: past_bar(s, next),
-    }
-}
-
-fn constants_at(s: &[u8], at: usize) -> Constants {
-    let mut list = [0u8; MOST_VARIABLES];
-    let mut next = at;
-    for k in 0..MOST_VARIABLES {
-        if more(s, next) {
-            let n = number(s, next);
-            list[k] = small(n);
-            next = n.next;
-        }
-    }
-    Constants {
-        list: list,
-        next: past_bar(s, next),
-    }
-}
-
-fn arities_at(s: &[u8], at: usize) -> Arities {
-    let mut list = [0u8; MOST_PREDICATES];
-    let mut next = at;
-    for k in 0..MOST_PREDICATES {
-        if more(s, next) {
-            let n = number(s, next);
-            list[k] = small(n);
-            next = n.next;
-        }
-    }
-    Arities {
-        list: list,
-        next: past_bar(s, next),
-    }
-}
-
-fn clause_at(s: &[u8], at: usize) -> Given {
-    let v = number(s, at);
-    let n = number(s, v.next);
-    let m = number(s, n.next);
-    let atoms = atoms_at(s, past_bar(s, m.next));
-    let literals = literals_at(s, atoms.next);
-    let constants = constants_at(s, literals.next);
-    let az = atoms.list;
-    let ls = literals.list;
-    let instance = constants.list;
-    let clause = Clause {
-        variables: small(v),
-        atomcount: small(n),
-        literalcount: small(m),
-        atoms: az,
-        literals: ls,
-    };
-    Given {
-        clause: clause,
-        instance: instance,
-        next: constants.next,
-    }
-}
-
 // ---- writing
 
-fn text(s: &[u8]) {
+fn write(s: &[u8]) {
     io::write_all(STDOUT_FILENO, s);
 }
 
@@ -274,55 +34,42 @@ fn decimal(n: u8) {
     io::print_decimal(STDOUT_FILENO, n as u64);
 }
 
-// Whether c is at least as far from zero as n
-fn reaches(c: i32, n: u32) -> bool {
-    if c < 0 {
-        return c <= signed(n, true);
-    }
-    signed(n, false) <= c
+// Room for a number of 32 bits with its sign
+fn room() -> [u8; 16]
+    ensures { λ r. ⌜ 16 ≡ length r ⌝ }
+{
+    [0; 16]
 }
 
-// How far c is from zero, in 22 bits
-fn size(c: i32) -> u32 {
-    let mut n: u32 = 0;
-    let mut bit: u32 = 2097152;
-    while 0 < bit {
-        let m = (n + bit) % 4194304;
-        if reaches(c, m) {
-            n = m;
-        }
-        bit = bit / 2;
-    }
-    n
+fn signed(n: i32) {
+    let mut out = room();
+    let end = text::put_signed(&mut out, 0, n);
+    write(&out[..end]);
 }
 
 fn print_atom(a: Atom) {
-    text(b" ");
+    write(b" ");
     decimal(a.p);
-    text(b"-");
+    write(b"-");
     decimal(a.q);
-    text(b"<=");
-    let c = a.c;
-    if c < 0 {
-        text(b"-");
-    }
-    io::print_decimal(STDOUT_FILENO, size(c) as u64);
+    write(b"<=");
+    signed(a.c);
 }
 
 fn print_literal(l: Literal) {
     if l.positive {
-        text(b" +");
+        write(b" +");
     } else {
-        text(b" -");
+        write(b" -");
     }
     decimal(l.predicate);
-    text(b"(");
+    write(b"(");
     decimal(l.x);
-    text(b",");
+    write(b",");
     decimal(l.y);
-    text(b",");
+    write(b",");
     decimal(l.z);
-    text(b")");
+    write(b")");
 }
 
 // The arrays' lengths
@@ -353,18 +100,18 @@ fn print_literals(c: Clause) {
 }
 
 fn print_clause(c: Clause) {
-    text(b" ");
+    write(b" ");
     decimal(c.variables);
-    text(b" |");
+    write(b" |");
     print_atoms(c);
-    text(b" |");
+    write(b" |");
     print_literals(c);
 }
 
 fn print_constants(n: u8, instance: [u8; MOST_VARIABLES]) {
     for k in 0..MOST_VARIABLES {
         if k < n as usize {
-            text(b" ");
+            write(b" ");
             decimal(instance[k]);
         }
     }
@@ -374,7 +121,7 @@ fn print_instanced(i: Instanced) {
     let c = i.clause;
     let instance = i.instance;
     print_clause(c);
-    text(b" |");
+    write(b" |");
     print_constants(c.variables, instance);
 }
 
@@ -384,7 +131,7 @@ fn print_merged(m: Merged) {
         print_instanced(i);
         return;
     }
-    text(b" too large");
+    write(b" too large");
 }
 
 // ---- cases
@@ -397,7 +144,7 @@ fn reason_case(s: &[u8], at: usize) {
     let r = merging::reason_of(c, i.value as usize, tau);
     let n = r.of;
     print_instanced(n);
-    text(b" | ");
+    write(b" | ");
     io::print_decimal(STDOUT_FILENO, r.own as u64);
 }
 
@@ -446,44 +193,19 @@ fn clause_case(s: &[u8], at: usize) {
         print_clause(c);
         return;
     }
-    text(b" refused ");
+    write(b" refused ");
     decimal(a.number);
-}
-
-// The table's clauses, each as often as the number before it says
-fn clauses_at(s: &[u8], at: usize) -> [Clause; MOST_INPUT] {
-    let none = clauses::no_clause();
-    let mut list = [none; MOST_INPUT];
-    let mut next = at;
-    let mut given = none;
-    let mut left: u32 = 0;
-    for k in 0..MOST_INPUT {
-        if left == 0 {
-            if more(s, next) {
-                let times = number(s, next);
-                let g = clause_at(s, times.next);
-                given = g.clause;
-                left = times.value;
-                next = g.next;
-            }
-        }
-        if left != 0 {
-            list[k] = given;
-            left = left - 1;
-        }
-    }
-    list
 }
 
 fn print_table(number: u8, place: u8, count: u8, list: [Clause; MOST_INPUT]) {
     if number != 0 {
-        text(b" refused ");
+        write(b" refused ");
         decimal(number);
-        text(b" at ");
+        write(b" at ");
         decimal(place);
         return;
     }
-    text(b" accepted");
+    write(b" accepted");
     let n = count as usize;
     if n == 0 {
         return;
@@ -500,7 +222,8 @@ fn table_case(s: &[u8], at: usize) {
     let count = number(s, predicates.next);
     let arities = arities_at(s, count.next);
     let list = arities.list;
-    let given = clauses_at(s, arities.next);
+    let clauses = clauses_at(s, arities.next);
+    let given = clauses.list;
     let a = admission::admit(
         small(constants),
         small(predicates),
@@ -532,41 +255,18 @@ fn case(s: &[u8], at: usize) {
             table_case(s, kind.next);
         }
     }
-    text(b"\n");
+    write(b"\n");
 }
 
-// Where the next line begins
-fn next_line(s: &[u8], at: usize) -> usize {
-    let mut i = at;
-    while i < s.len() {
-        if s[i] == b'\n' {
-            return i + 1;
-        }
-        i += 1;
-    }
-    i
-}
-
-// The name, up to the first blank, printed; where it ends
-fn name(s: &[u8], at: usize) -> usize {
-    let mut i = at;
-    while i < s.len() {
-        let b = s[i];
-        if b == b' ' {
-            return i;
-        }
-        let one = [b; 1];
-        text(&one);
-        i += 1;
-    }
-    i
-}
-
-fn line(s: &[u8], at: usize) {
-    if byte(s, at) == b'#' {
+fn line(s: &[u8], at: usize)
+    requires { ⌜ at ≤ length (now s) ⌝ }
+{
+    if is_comment(s, at) {
         return;
     }
-    case(s, name(s, at));
+    let end = name_end(s, at);
+    write(&s[at..end]);
+    case(s, end);
 }
 
 fn main() {
@@ -578,7 +278,7 @@ fn main() {
         if at < n {
             let s = &buffer[..n];
             line(s, at);
-            at = next_line(s, at);
+            at = next_case(s, at);
         }
         lines += 1;
     }

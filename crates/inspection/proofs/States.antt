@@ -1,12 +1,11 @@
 -- What the records of a state say is the state: so the text written of them is the state's.
-use mathlib.Core.Path.{_≡_, refl, sym, ap, ap₂, _∙_}
+use mathlib.Core.Path.{_≡_, refl, sym, ap, ap₂, subst, _∙_}
 use mathlib.Core.Bool.{Bool, true, false}
-use mathlib.Core.List.{List, [], _∷_, _++_, List·Memᴰ, map, map-append, map-id, map-map, reverse, reverse-cons}
+use mathlib.Core.List.{List, [], _∷_, _++_, List·Memᴰ, map, map-id, map-map, reverse}
 use mathlib.Core.Option.{Option, none, some}
-use Prim.Native.Nat.{ℕ, zero, suc, _+_, _≤_}
+use Prim.Native.Nat.{ℕ, suc, _+_, _≤_}
 use native.Mathlib.Omega.{arith}
-use lib.ListN.{length, length-append, length-map, take, getD}
-use lib.Seq.{take-suc}
+use lib.ListN.{length, length-append, length-map, take}
 use Rattle.lists.proofs.Arrays.{take-exactly}
 use Rattle.lists.proofs.Members.{map-same}
 use Rattle.calculus.specs.Class.{Limited}
@@ -16,28 +15,22 @@ use Rattle.clauses.proofs.Records.{packed-says}
 use Rattle.clauses.specs.Records.{clauseOf, instancedOf, packed}
 use Rattle.clauses.specs.declared.Clause.{Clause}
 use Rattle.clauses.specs.declared.Instanced.{Instanced}
-use Rattle.trail.proofs.Stored.{packed-length}
-use Rattle.trail.specs.Entries.{entryOf, pastEnd, trailOf}
-use Rattle.trail.specs.declared.Entry.{Entry}
+use Rattle.trail.proofs.Stored.{packed-length, row-says}
+use Rattle.trail.specs.Entries.{entryOf}
 use Rattle.rules.proofs.Runs.{clauses-is, conflict-says, constants-is, fine, level-is, no-conflict, stands-is, stored}
+use Rattle.rules.specs.Answers.{RunOf}
 use Rattle.rules.specs.declared.Run.{Run}
+use Rattle.state.proofs.Table.{run-of, table-is}
+use Rattle.state.specs.States as states
 use Rattle.state.specs.States.{mostClauses, packedTable}
+use Rattle.state.specs.declared.State as whole
 use Rattle.inspection.specs.StateText.{inTurn, entryLine, clauseLine, firstLine, conflictLine, stateText}
-use Rattle.inspection.specs.Writing.{Recorded, clauseLineOf, conflictSaid, entryLineOf}
+use Rattle.inspection.specs.Writing.{Kept, Recorded, ShownOnce, Shows, clauseLineOf, conflictSaid, entryLineOf, mostState}
 
 -- The text of elements that say others
 turn-says : {A B : Type 0} (f : ℕ → B → List ℕ) (g : A → B) (n : ℕ) (xs : List A) → inTurn n (λ k x. f k (g x)) xs ≡ inTurn n f (map g xs)
 turn-says f g n [] = refl
 turn-says f g n (x ∷ xs) = ap (λ (w : List ℕ). f n (g x) ++ w) (turn-says f g (suc n) xs)
-
--- The first n entries of an array, first to last, are its trail turned round.
-row-says : (es : List Entry) (n : ℕ) → n ≤ length es → map entryOf (take n es) ≡ reverse (trailOf es n)
-row-says es zero h = refl
-row-says es (suc n) h =
-    let e = entryOf (getD es n pastEnd) in
-    ap (map entryOf) (take-suc es n pastEnd h) ∙ map-append entryOf (take n es) (getD es n pastEnd ∷ [])
-    ∙ ap (λ l. l ++ (e ∷ [])) (row-says es n (omega arith))
-    ∙ sym (reverse-cons e (trailOf es n))
 
 -- The first clauses of a table, as many as it is made of
 table-says : (cs : List calculus.Clause) → length cs ≤ mostClauses → ((C : calculus.Clause) → List·Memᴰ C cs → Limited C) → map clauseOf (take (length cs) (packedTable cs)) ≡ cs
@@ -78,3 +71,13 @@ module _ {run : Run} {table : List Clause} {s : State} (R : Recorded run table s
       ++ conflictLine (conflictSaid (run .stands) (run .conflict)) ≡ stateText s
   unfolding stateText
   state-text = λ i. firstLine (constants-is (R .run-of) i) (level-is (R .run-of) i) ++ trail-text i ++ clauses-text i ++ conflictLine (conflict-text i)
+
+pub shown-once : ShownOnce
+shown-once run table d i d₁ d₂ r₁ r₂ (s, R) a b = (a s R .wrote .left ∙ sym (b s R .wrote .left), a s R .wrote .next ∙ sym (b s R .wrote .next))
+
+-- Of a whole state record, its run and its table
+pub kept-of : {r : whole.State} {run : Run} {table : List Clause} → run ≡ r .run → table ≡ r .table → states.Kept r → Kept run table
+kept-of e f (s, S) = (s, record { run-of = subst (λ (q : Run). RunOf q s) (sym e) (run-of S); table-is = f ∙ table-is S })
+
+pub shown-room : {run : Run} {table : List Clause} {d d′ : List ℕ} {i r : ℕ} → Kept run table → Shows run table d i d′ r → r ≤ i + mostState
+shown-room (s, R) h = h s R .room

@@ -105,3 +105,7 @@ Kept run table = (s : State) × Recorded run table s
 -- What `put_state` promises: that state's text.
 abbrev pub Shows : Run → List Clause → (before : List ℕ) (at : ℕ) (after : List ℕ) (next : ℕ) → Type 0
 Shows run table d i d′ r = (s : State) → Recorded run table s → Put mostState d i (stateText s) d′ r
+
+-- The bytes and the next place are unique. Proved in proofs/States.antt.
+abbrev pub ShownOnce : Type 0
+ShownOnce = (run : Run) (table : List Clause) (d : List ℕ) (i : ℕ) (d₁ d₂ : List ℕ) (r₁ r₂ : ℕ) → Kept run table → Shows run table d i d₁ r₁ → Shows run table d i d₂ r₂ → (d₁ ≡ d₂) × (r₁ ≡ r₂)

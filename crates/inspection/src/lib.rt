@@ -21,6 +21,7 @@ use basis::MOST_VARIABLES;
 use clauses::Clause;
 use clauses::Instanced;
 use rules::Run;
+use state::MOST_CLAUSES;
 use text::put_byte;
 use text::put_decimal;
 use text::put_signed;
@@ -30,6 +31,9 @@ use trail::Kind;
 use trail::atoms_of;
 use trail::constants_of;
 use trail::literals_of;
+
+// No state's text has more bytes.
+pub const MOST_STATE: usize = 82070;
 
 // ---- numbers and atoms
 
@@ -306,17 +310,17 @@ fn put_clause_line(out: &mut [u8], at: usize, n: usize, c: Clause) -> usize
 }
 
 // How many clauses there are, and no more than there is room for
-fn clauses_of(table: [Clause; 96], count: usize) -> usize
+fn clauses_of(table: [Clause; MOST_CLAUSES], count: usize) -> usize
     ensures { λ r. ⌜ Counts table mostClauses count r ⌝ }
 {
-    if count < 96 {
+    if count < MOST_CLAUSES {
         return count;
     }
-    96
+    MOST_CLAUSES
 }
 
 // The lines of the first `count` clauses, numbered through
-fn put_clauses(out: &mut [u8], at: usize, table: [Clause; 96], count: usize) -> usize
+fn put_clauses(out: &mut [u8], at: usize, table: [Clause; MOST_CLAUSES], count: usize) -> usize
     requires { ⌜ at + mostClauses * mostClauseLine ≤ length (now out) ⌝ }
     ensures { λ r. ⌜ Put (mostClauses * mostClauseLine) (now (out .entry)) at (inTurn 1 clauseLineOf (take count table)) (now (out .exit)) r ⌝ }
 {
@@ -368,13 +372,14 @@ fn put_conflict_line(out: &mut [u8], at: usize, stands: bool, n: Instanced) -> u
 }
 
 // The text of a state, of its run and the table of its clauses
-pub fn put_state(out: &mut [u8], at: usize, run: Run, table: [Clause; 96]) -> usize
+pub fn put_state(out: &mut [u8], at: usize, run: Run, table: [Clause; MOST_CLAUSES]) -> usize
     requires { ⌜ (at + mostState ≤ length (now out)) × Kept run table ⌝ }
     ensures { λ r. ⌜ Shows run table (now (out .entry)) at (now (out .exit)) r ⌝ }
 {
     let trail = run.trail;
     let conflict = run.conflict;
-    let count = run.input as usize + run.learned as usize;
+    let input = run.input as usize;
+    let count = input + run.learned as usize;
     let first = put_first_line(out, at, run.constants, run.level);
     let entries = put_trail(out, first, trail, run.length);
     let clauses = put_clauses(out, entries, table, count);

@@ -109,6 +109,10 @@ lookedAt r x = cond (eqb (x .rule) 4) (cond (between 1 mostEntries (r .length)) 
 abbrev pub slotOf : ℕ → ℕ
 slotOf c = cond (between 1 mostClauses c) (c - 1) 0
 
+-- Every step keeps what it takes for granted. Proved in proofs/Runs.antt.
+abbrev pub StepKeeps : Type 0
+StepKeeps = (r : State) (x : Step) (a : Answered) → Kept r → Answers r x a → Kept (a .state)
+
 -- The answer is unique. Proved in proofs/Runs.antt.
 abbrev pub AnswerUnique : Type 0
 AnswerUnique = (r : State) (x : Step) (a b : Answered) → Kept r → Answers r x a → Answers r x b → a ≡ b

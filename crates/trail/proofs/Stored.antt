@@ -1,6 +1,6 @@
 -- A trail stored in an array: what an entry pushed or taken away does to it, and that the record of a trail says that trail.
 use mathlib.Core.Path.{_∙_, _≡_, ap, ap₂, refl, subst, sym}
-use mathlib.Core.List.{List, [], _++_, _∷_, map, map-append, reverse, reverseAux-eq}
+use mathlib.Core.List.{List, [], _++_, _∷_, map, map-append, reverse, reverse-cons, reverseAux-eq}
 use mathlib.Core.Bool.{Bool, cond, false, true}
 use Prim.Native.Nat.{_+_, _<_, _≤_, pred, suc, zero, ℕ}
 use native.Mathlib.Numerals.{add-one}
@@ -49,6 +49,15 @@ trail-length es (suc n) = ap suc (trail-length es n)
 pub trail-unseen : (es : List Entry) (n i : ℕ) (x : Entry) → n ≤ i → trailOf (set es i x) n ≡ trailOf es n
 trail-unseen es zero i x h = refl
 trail-unseen es (suc n) i x h = ap₂ {C = Trail} (λ a b. entryOf a ∷ b) (getD-set-other es i n x pastEnd (omega arith)) (trail-unseen es n i x (omega arith))
+
+-- The first n entries of an array, first to last, are its trail turned round.
+pub row-says : (es : List Entry) (n : ℕ) → n ≤ length es → map entryOf (take n es) ≡ reverse (trailOf es n)
+row-says es zero h = refl
+row-says es (suc n) h =
+    let e = entryOf (getD es n pastEnd) in
+    ap (map entryOf) (take-suc es n pastEnd h) ∙ map-append entryOf (take n es) (getD es n pastEnd ∷ [])
+    ∙ ap (λ l. l ++ (e ∷ [])) (row-says es n (omega arith))
+    ∙ sym (reverse-cons e (trailOf es n))
 
 pub packed-length : (t : Trail) → length (packedTrail t) ≡ mostEntries
 unfolding packedTrail

@@ -33,8 +33,8 @@ slice-aggregate-s c = search needs
 line-requires : tie.Need-line-requires Inv-loop μ-loop
 line-requires c κs = search needs
 
-next-line-requires : tie.Need-next-line-requires Inv-loop μ-loop
-next-line-requires c κs = search needs
+next-case-requires : tie.Need-next-case-requires Inv-loop μ-loop
+next-case-requires c κs = search needs
 
 add-lines : tie.Need-add-lines Inv-loop μ-loop
 add-lines c = search needs
@@ -61,7 +61,7 @@ main-spec =
     array-share-prefix-buffer
     slice-aggregate-s
     line-requires
-    next-line-requires
+    next-case-requires
     add-lines
     loop-less
     loop-again

@@ -17,11 +17,11 @@ abbrev μ-loop : tie.MeasureT-loop
 loop-holds : tie.Need-loop-holds Inv-loop μ-loop
 loop-holds c = search needs
 
-slice-aggregate-text : tie.Need-slice-aggregate-text Inv-loop μ-loop
-slice-aggregate-text c = search needs
+slice-aggregate-write : tie.Need-slice-aggregate-write Inv-loop μ-loop
+slice-aggregate-write c = search needs
 
-text-requires : tie.Need-text-requires Inv-loop μ-loop
-text-requires c κs = search needs
+write-requires : tie.Need-write-requires Inv-loop μ-loop
+write-requires c κs = search needs
 
 array-read-decimal : tie.Need-array-read-decimal Inv-loop μ-loop
 array-read-decimal c = search needs
@@ -48,8 +48,8 @@ print-constants-spec =
     Inv-loop
     μ-loop
     loop-holds
-    slice-aggregate-text
-    text-requires
+    slice-aggregate-write
+    write-requires
     array-read-decimal
     decimal-requires
     add-k

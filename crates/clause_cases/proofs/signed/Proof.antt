@@ -1,29 +1,41 @@
--- `clause_cases::signed` stays within its bounds and ends.
--- What the search leaves are bounds of numbers.
-use Prim.Native.Nat.{_%_, _<_}
+-- A sign and ten digits fit the room.
+use mathlib.Core.Path.{sym}
 use native.Mathlib.Omega.{arith}
-use lib.IntN.{pos, negℤ}
-use mir.Syntax.{w32}
-use mir.Facts.{toZ-pos}
+use lib.Seq.{length-take-le}
 use borrow.Author.Needs.{needs}
-use Rattle.integers.proofs.Linear.{sum, negated}
-use Rattle.integers.proofs.Machine.{fits-of}
+use Rattle.text.proofs.Signed.{length-read}
 use Rattle.clause_cases.proofs.signed.Statement.{statement}
 use Rattle.clause_cases.proofs.signed.Tie as tie
 
-cast-size : tie.Need-cast-size
-cast-size c = search needs
+room-requires : tie.Need-room-requires
+room-requires c κs = search needs
 
-sub-result : tie.Need-sub-result
-sub-result c = let n = c .before .args .value % 2147483648 in
-    let h : n < 2147483648 = omega arith in
-    rw (toZ-pos w32 h) (fits-of w32 {m = n} (record { above = omega (arith, sum (pos 0) (negℤ (pos n)), negated (pos n)); below = omega (arith, sum (pos 0) (negℤ (pos n)), negated (pos n)) }) h)
+slice-aggregate-put-signed : tie.Need-slice-aggregate-put-signed
+slice-aggregate-put-signed c = search needs
+
+put-signed-requires : tie.Need-put-signed-requires
+put-signed-requires c κs = omega (arith, length-read {n = c .before .before .args .n} (c .before .before .fits .n))
+
+array-share-prefix-out : tie.Need-array-share-prefix-out
+array-share-prefix-out c = omega (arith, length-read {n = c .before .before .before .before .args .n} (c .before .before .before .before .fits .n))
+
+slice-aggregate-write : tie.Need-slice-aggregate-write
+slice-aggregate-write c = sym (length-take-le (c .before .before .put-signed .result) (c .before .before .put-signed .last .0) (omega (arith, length-read {n = c .before .before .before .before .before .args .n} (c .before .before .before .before .before .fits .n))))
+
+write-requires : tie.Need-write-requires
+write-requires c κs = search needs
 
 returns : tie.Need-returns
 returns c = search needs
 
-returns-2 : tie.Need-returns-2
-returns-2 c = search needs
-
 pub signed-spec : {M : Type 1} → statement M
-signed-spec = tie.close (tie.spec cast-size sub-result returns returns-2)
+signed-spec =
+    tie.close
+    (tie.spec
+    room-requires
+    slice-aggregate-put-signed
+    put-signed-requires
+    array-share-prefix-out
+    slice-aggregate-write
+    write-requires
+    returns)

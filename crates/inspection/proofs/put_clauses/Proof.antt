@@ -1,8 +1,8 @@
 -- The loop writes the lines in turn.
-use mathlib.Core.List.{[]}
 use Prim.Native.Nat.{_≤_, _-_, _+_}
 use native.Mathlib.Omega.{arith}
 use borrow.Author.Needs.{needs}
+use Rattle.state.proofs.Table.{pastTable}
 use Rattle.inspection.specs.Writing.{clauseLineOf, mostClauseLine}
 use Rattle.inspection.proofs.Turns.{Turned, turned-most, turned-more, turned-none}
 use Rattle.inspection.proofs.put_clauses.Statement.{statement}
@@ -39,7 +39,7 @@ loop-less : tie.Need-loop-less Inv-loop μ-loop
 loop-less c = search needs
 
 loop-again : tie.Need-loop-again Inv-loop μ-loop
-loop-again c = (search needs, turned-more (c .before .before .before .before .before .before .loop .inv .1) (c .before .before .before .before .before .before .loop .j + 1) (record { variables = 0; atomcount = 0; literalcount = 0; atoms = []; literals = [] }) (search needs) (omega arith) (search needs) (c .before .before .put-clause-line .ensures))
+loop-again c = (search needs, turned-more (c .before .before .before .before .before .before .loop .inv .1) (c .before .before .before .before .before .before .loop .j + 1) pastTable (search needs) (omega arith) (search needs) (c .before .before .put-clause-line .ensures))
 
 same-length : tie.Need-same-length Inv-loop μ-loop
 same-length c = search needs

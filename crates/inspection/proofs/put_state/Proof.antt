@@ -5,11 +5,11 @@ use Rattle.inspection.proofs.States.{state-text}
 use Rattle.inspection.proofs.put_state.Statement.{statement}
 use Rattle.inspection.proofs.put_state.Tie as tie
 
+cast-input : tie.Need-cast-input
+cast-input c = search needs
+
 cast-count : tie.Need-cast-count
 cast-count c = search needs
-
-cast-count-2 : tie.Need-cast-count-2
-cast-count-2 c = search needs
 
 add-count : tie.Need-add-count
 add-count c = search needs
@@ -36,8 +36,8 @@ pub put-state-spec : {M : Type 1} → statement M
 put-state-spec =
     tie.close
     (tie.spec
+    cast-input
     cast-count
-    cast-count-2
     add-count
     put-first-line-requires
     put-trail-requires

@@ -1,4 +1,4 @@
--- `clause_cases::literals_at` stays within its bounds and ends.
+-- `cases::literals_at` stays within its bounds and ends.
 -- The invariant is what the bounds need; the measure: how much is left.
 use mathlib.Core.Path.{_≡_, ap, _∙_}
 use mathlib.Core.Logic.{⊎-elim}
@@ -7,8 +7,8 @@ use native.Mathlib.Omega.{arith}
 use lib.ListN.{length, length-set}
 use borrow.Author.Needs.{needs}
 use Rattle.basis.specs.Limits.{mostLiterals}
-use Rattle.clause_cases.proofs.literals_at.Statement.{statement}
-use Rattle.clause_cases.proofs.literals_at.Tie as tie
+use Rattle.cases.proofs.literals_at.Statement.{statement}
+use Rattle.cases.proofs.literals_at.Tie as tie
 
 abbrev Inv-loop : tie.InvT-loop
 Inv-loop s at list₀ next₀ k₀ list next k = (k ≤ mostLiterals) × (length list ≡ mostLiterals)

@@ -1,13 +1,13 @@
--- `clause_cases::next_line` stays within its bounds and ends.
+-- `cases::name_end` stays within its bounds and ends.
 -- The invariant is what the bounds need; the measure: how much is left.
 use Prim.Native.Nat.{_-_, _≤_}
 use lib.ListN.{length}
 use borrow.Author.Needs.{needs}
-use Rattle.clause_cases.proofs.next_line.Statement.{statement}
-use Rattle.clause_cases.proofs.next_line.Tie as tie
+use Rattle.cases.proofs.name_end.Statement.{statement}
+use Rattle.cases.proofs.name_end.Tie as tie
 
 abbrev Inv-loop : tie.InvT-loop
-Inv-loop s at i₀ i = i ≤ i
+Inv-loop s at i₀ i = (at ≤ i) × (i ≤ length s)
 
 abbrev μ-loop : tie.MeasureT-loop
 μ-loop s at i₀ i = length s - i
@@ -17,9 +17,6 @@ loop-holds c = search needs
 
 shared-slice-read-if1 : tie.Need-shared-slice-read-if1 Inv-loop μ-loop
 shared-slice-read-if1 c = search needs
-
-add-result : tie.Need-add-result Inv-loop μ-loop
-add-result c = search needs
 
 returns : tie.Need-returns Inv-loop μ-loop
 returns c = search needs
@@ -36,15 +33,14 @@ loop-again c = search needs
 returns-2 : tie.Need-returns-2 Inv-loop μ-loop
 returns-2 c = search needs
 
-pub next-line-spec : {M : Type 1} → statement M
-next-line-spec =
+pub name-end-spec : {M : Type 1} → statement M
+name-end-spec =
     tie.close
     (tie.spec
     Inv-loop
     μ-loop
     loop-holds
     shared-slice-read-if1
-    add-result
     returns
     add-i
     loop-less

@@ -1,4 +1,4 @@
--- `clause_cases::clauses_at` stays within its bounds and ends.
+-- `cases::clauses_at` stays within its bounds and ends.
 -- The invariant is what the bounds need; the measure: how much is left.
 use mathlib.Core.Path.{_≡_, ap, _∙_}
 use mathlib.Core.Logic.{⊎-elim}
@@ -7,8 +7,8 @@ use native.Mathlib.Omega.{arith}
 use lib.ListN.{length, length-set}
 use borrow.Author.Needs.{needs}
 use Rattle.basis.specs.Limits.{mostInput}
-use Rattle.clause_cases.proofs.clauses_at.Statement.{statement}
-use Rattle.clause_cases.proofs.clauses_at.Tie as tie
+use Rattle.cases.proofs.clauses_at.Statement.{statement}
+use Rattle.cases.proofs.clauses_at.Tie as tie
 
 abbrev Inv-loop : tie.InvT-loop
 Inv-loop s at list₀ next₀ given₀ left₀ k₀ list next given left k = (k ≤ mostInput) × (length list ≡ mostInput)
@@ -49,6 +49,9 @@ loop-less c = search needs
 loop-again : tie.Need-loop-again Inv-loop μ-loop
 loop-again c = ⊎-elim (λ w. (omega arith, ap length (w .2) ∙ simp length-set (c .before .before .before .loop .inv .1))) (λ w. (omega arith, ap length (w .1) ∙ c .before .before .before .loop .inv .1)) (c .if3 .came)
 
+past-bar-requires : tie.Need-past-bar-requires Inv-loop μ-loop
+past-bar-requires c κs = search needs
+
 returns : tie.Need-returns Inv-loop μ-loop
 returns c = search needs
 
@@ -69,4 +72,5 @@ clauses-at-spec =
     add-k
     loop-less
     loop-again
+    past-bar-requires
     returns)

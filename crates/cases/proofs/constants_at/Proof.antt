@@ -1,4 +1,4 @@
--- `clause_cases::arities_at` stays within its bounds and ends.
+-- `cases::constants_at` stays within its bounds and ends.
 -- The invariant is what the bounds need; the measure: how much is left.
 use mathlib.Core.Path.{_≡_, ap, _∙_}
 use mathlib.Core.Logic.{⊎-elim}
@@ -6,15 +6,15 @@ use Prim.Native.Nat.{_-_, _≤_}
 use native.Mathlib.Omega.{arith}
 use lib.ListN.{length, length-set}
 use borrow.Author.Needs.{needs}
-use Rattle.basis.specs.Limits.{mostPredicates}
-use Rattle.clause_cases.proofs.arities_at.Statement.{statement}
-use Rattle.clause_cases.proofs.arities_at.Tie as tie
+use Rattle.basis.specs.Limits.{mostVariables}
+use Rattle.cases.proofs.constants_at.Statement.{statement}
+use Rattle.cases.proofs.constants_at.Tie as tie
 
 abbrev Inv-loop : tie.InvT-loop
-Inv-loop s at list₀ next₀ k₀ list next k = (k ≤ mostPredicates) × (length list ≡ mostPredicates)
+Inv-loop s at list₀ next₀ k₀ list next k = (k ≤ mostVariables) × (length list ≡ mostVariables)
 
 abbrev μ-loop : tie.MeasureT-loop
-μ-loop s at list₀ next₀ k₀ list next k = mostPredicates - k
+μ-loop s at list₀ next₀ k₀ list next k = mostVariables - k
 
 loop-holds : tie.Need-loop-holds Inv-loop μ-loop
 loop-holds c = search needs
@@ -46,8 +46,8 @@ past-bar-requires c κs = search needs
 returns : tie.Need-returns Inv-loop μ-loop
 returns c = search needs
 
-pub arities-at-spec : {M : Type 1} → statement M
-arities-at-spec =
+pub constants-at-spec : {M : Type 1} → statement M
+constants-at-spec =
     tie.close
     (tie.spec
     Inv-loop

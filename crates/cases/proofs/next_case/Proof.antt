@@ -1,10 +1,10 @@
--- `clause_cases::skipped` stays within its bounds and ends.
+-- `cases::next_case` stays within its bounds and ends.
 -- The invariant is what the bounds need; the measure: how much is left.
 use Prim.Native.Nat.{_-_, _≤_}
 use lib.ListN.{length}
 use borrow.Author.Needs.{needs}
-use Rattle.clause_cases.proofs.skipped.Statement.{statement}
-use Rattle.clause_cases.proofs.skipped.Tie as tie
+use Rattle.cases.proofs.next_case.Statement.{statement}
+use Rattle.cases.proofs.next_case.Tie as tie
 
 abbrev Inv-loop : tie.InvT-loop
 Inv-loop s at i₀ i = i ≤ i
@@ -15,11 +15,11 @@ abbrev μ-loop : tie.MeasureT-loop
 loop-holds : tie.Need-loop-holds Inv-loop μ-loop
 loop-holds c = search needs
 
-shared-slice-read-begins : tie.Need-shared-slice-read-begins Inv-loop μ-loop
-shared-slice-read-begins c = search needs
+ends-requires : tie.Need-ends-requires Inv-loop μ-loop
+ends-requires c κs = search needs
 
-begins-requires : tie.Need-begins-requires Inv-loop μ-loop
-begins-requires c κs = search needs
+add-result : tie.Need-add-result Inv-loop μ-loop
+add-result c = search needs
 
 returns : tie.Need-returns Inv-loop μ-loop
 returns c = search needs
@@ -36,15 +36,15 @@ loop-again c = search needs
 returns-2 : tie.Need-returns-2 Inv-loop μ-loop
 returns-2 c = search needs
 
-pub skipped-spec : {M : Type 1} → statement M
-skipped-spec =
+pub next-case-spec : {M : Type 1} → statement M
+next-case-spec =
     tie.close
     (tie.spec
     Inv-loop
     μ-loop
     loop-holds
-    shared-slice-read-begins
-    begins-requires
+    ends-requires
+    add-result
     returns
     add-i
     loop-less

@@ -1,10 +1,10 @@
--- `clause_cases::digits` stays within its bounds and ends.
+-- `cases::digits` stays within its bounds and ends.
 -- The invariant is what the bounds need; the measure: how much is left.
 use Prim.Native.Nat.{_-_, _≤_}
 use lib.ListN.{length}
 use borrow.Author.Needs.{needs}
-use Rattle.clause_cases.proofs.digits.Statement.{statement}
-use Rattle.clause_cases.proofs.digits.Tie as tie
+use Rattle.cases.proofs.digits.Statement.{statement}
+use Rattle.cases.proofs.digits.Tie as tie
 
 abbrev Inv-loop : tie.InvT-loop
 Inv-loop s at negative value₀ i₀ value i = i ≤ i
