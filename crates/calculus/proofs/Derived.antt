@@ -260,10 +260,6 @@ module _ (N : Instanced) (j : ℕ) (R : Instanced) (i n : ℕ)
           let (y, d, f) = Memᴰ·of-map (apart v) (arguments b) (subst (λ (q : Literal). List·Memᴰ x (arguments q)) (sym e) k) in
           subst (λ q. q ≤ v + w) f (apart-le v w y (wR .arguments-in b (without-out i (R .clause .literals) c) y d))
 
-  pub resolvent-within : Inside (resolvent N j R i .clause .variables) (resolvent N j R i .clause .atoms) (resolvent N j R i .clause .literals)
-  unfolding es az ls w τ′ resolvent merge
-  resolvent-within = merge-within es (v + w) az ls τ′ together-fits wf″
-
   pub resolvent-sized : Sized n (resolvent N j R i .clause .variables) (resolvent N j R i .instance)
   unfolding es az ls w τ′ resolvent merge
   resolvent-sized = merge-sized es (v + w) az ls τ′ together-fits wf″ n (sized-append n v w (N .instance) (R .instance) sN sR)
@@ -308,10 +304,6 @@ module _ (N : Instanced) (i j n : ℕ)
 
   fewer-placed : Inside (N .clause .variables) (N .clause .atoms) (without (max i j) (N .clause .literals))
   fewer-placed = record { p-in = wN .p-in; q-in = wN .q-in; arguments-in = λ l m. wN .arguments-in l (without-out (max i j) (N .clause .literals) m) }
-
-  pub factored-within : Inside (factored N i j .clause .variables) (factored N i j .clause .atoms) (factored N i j .clause .literals)
-  unfolding met factored merge
-  factored-within = merge-within met (N .clause .variables) (N .clause .atoms) (without (max i j) (N .clause .literals)) (N .instance) met-fits fewer-placed
 
   pub factored-sized : Sized n (factored N i j .clause .variables) (factored N i j .instance)
   unfolding met factored merge

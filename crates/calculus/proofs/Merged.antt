@@ -27,7 +27,7 @@ pub sameAtom-refl : (a : Atom) → T (sameAtom a a)
 sameAtom-refl a = and-i (eqb (a .p) (a .p)) (eqb (a .q) (a .q) && sameWhole (a .c) (a .c)) (eqb-refl (a .p)) (and-i (eqb (a .q) (a .q)) (sameWhole (a .c) (a .c)) (eqb-refl (a .q)) (sameWhole-refl (a .c)))
 
 -- Literals with the same sign, predicate and arguments are one.
-pub same-arguments : {a b : Literal} → a .positive ≡ b .positive → a .predicate ≡ b .predicate → arguments a ≡ arguments b → a ≡ b
+same-arguments : {a b : Literal} → a .positive ≡ b .positive → a .predicate ≡ b .predicate → arguments a ≡ arguments b → a ≡ b
 same-arguments {a} {b} s n e =
     let ex : a .x ≡ b .x = cc in
     let ey : a .y ≡ b .y = cc in

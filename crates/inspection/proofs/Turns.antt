@@ -39,10 +39,6 @@ pub apart-next : (w : List ℕ) (j : ℕ) → ¬ (j ≡ 0) → w ≡ apart w j
 apart-next w zero h = absurd (h refl)
 apart-next w (suc j) h = refl
 
--- The same bytes said in another way, with more room
-pub put-as : {m n : ℕ} {d d′ v w : List ℕ} {i r : ℕ} → v ≡ w → m ≤ n → Put m d i v d′ r → Put n d i w d′ r
-put-as e h a = record { wrote = as-text e (a .wrote); room = omega arith }
-
 -- The invariant of a loop over xs that writes each element's text, the first with the number n and none longer than `most`: after j of them
 pub record Turned {A : Type 0} (n : ℕ) (f : ℕ → A → List ℕ) (most : ℕ) (xs : List A) (j : ℕ) (d : List ℕ) (i : ℕ) (d′ : List ℕ) (r : ℕ) : Type 0 where
   pub wrote : Wrote d i (inTurn n f (take j xs)) d′ r

@@ -40,10 +40,11 @@ mostTuple n = 2 + n * (1 + mostNumber)
 abbrev pub mostLiteral : ℕ
 mostLiteral = 2 + mostNumber + mostTuple mostArguments
 
--- ` propagate 255 255 (..)`
+-- ` propagate ` is the longest.
 abbrev pub mostRule : ℕ
 mostRule = 11
 
+-- ` propagate 255 255 (..)`
 abbrev pub mostStep : ℕ
 mostStep = mostRule + mostNumber + 1 + mostNumber + 1 + mostTuple mostVariables
 
@@ -51,21 +52,27 @@ mostStep = mostRule + mostNumber + 1 + mostNumber + 1 + mostTuple mostVariables
 abbrev pub mostEntry : ℕ
 mostEntry = mostLiteral + mostStep
 
+-- `trail 255 ..` and the end of the line
 abbrev pub mostEntryLine : ℕ
 mostEntryLine = 6 + mostNumber + 1 + mostEntry + 1
 
+-- `255 [..] ..`: each atom and each literal with a space before it
 abbrev pub mostClauseText : ℕ
 mostClauseText = mostNumber + 2 + mostAtoms * (1 + mostAtom) + 1 + mostLiterals * (1 + mostLiteral)
 
+-- `clause 255 ..` and the end of the line
 abbrev pub mostClauseLine : ℕ
 mostClauseLine = 7 + mostNumber + 1 + mostClauseText + 1
 
+-- `constants 255 level 255` and the end of the line
 abbrev pub mostFirstLine : ℕ
 mostFirstLine = 10 + mostNumber + 7 + mostNumber + 1
 
+-- The conflict's text, then ` at (..)`
 abbrev pub mostConflict : ℕ
 mostConflict = mostClauseText + 4 + mostTuple mostVariables
 
+-- `conflict ..` and the end of the line
 abbrev pub mostConflictLine : ℕ
 mostConflictLine = 9 + mostConflict + 1
 

@@ -60,11 +60,6 @@ negated (pos zero) = (refl, refl)
 negated (pos (suc n)) = (refl, refl)
 negated (negsuc n) = (refl, refl)
 
--- One side is 0.
-pub one-side : (z : ℤ) → over z ≤ under z → over z ≡ 0
-one-side (pos n) h = omega arith
-one-side (negsuc n) h = refl
-
 -- A range on both sides bounds the magnitude.
 pub →mag : (z : ℤ) (m most : ℕ) → over z ≤ m + under z → under z ≤ m + over z → m < most → mag z < most
 →mag (pos n) m most h k l = omega arith

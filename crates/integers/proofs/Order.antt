@@ -5,7 +5,7 @@ use Prim.Native.Nat.{ℕ, _+_, _≤_}
 use native.Mathlib.Omega.{arith}
 use lib.Dec.{T}
 use lib.IntN.{ℤ, negsuc, negℤ, _+ℤ_, _-ℤ_}
-use lib.Signed.{_≤ℤ_, _<ℤ_, leZ, ltZ, leZ-yes, ltZ-yes, ltZ-no}
+use lib.Signed.{_≤ℤ_, _<ℤ_, ltZ, ltZ-yes, ltZ-no}
 use Rattle.integers.specs.Sides.{Within}
 use Rattle.integers.proofs.Linear.{le→, lt→, →le, →lt, →eq, sum, negated}
 
@@ -14,9 +14,6 @@ ltZ-true e = ltZ-yes (subst T (sym e) tt)
 
 pub ltZ-false : {a b : ℤ} → ltZ a b ≡ false → b ≤ℤ a
 ltZ-false e = ltZ-no (subst (λ (t : Bool). T (not t)) (sym e) tt)
-
-pub leZ-true : {a b : ℤ} → leZ a b ≡ true → a ≤ℤ b
-leZ-true e = leZ-yes (subst T (sym e) tt)
 
 pub <→≤ : {a b : ℤ} → a <ℤ b → a ≤ℤ b
 <→≤ {a} {b} h = →le a b (omega (arith, lt→ h))
@@ -36,9 +33,6 @@ pub +ℤ-cancel : {a b : ℤ} (c : ℤ) → (a +ℤ c) ≤ℤ (b +ℤ c) → a �
 -- x - y ≤ c, said by a sum.
 pub by-sum : (x y c : ℤ) → (x -ℤ y) ≤ℤ c → x ≤ℤ (c +ℤ y)
 by-sum x y c h = →le x (c +ℤ y) (omega (arith, le→ h, sum x (negℤ y), sum c y, negated y))
-
-pub by-difference : (x y c : ℤ) → x ≤ℤ (c +ℤ y) → (x -ℤ y) ≤ℤ c
-by-difference x y c h = →le (x -ℤ y) c (omega (arith, le→ h, sum x (negℤ y), sum c y, negated y))
 
 -- Below, by at least one
 pub by-order : (x y : ℤ) → x <ℤ y → x ≤ℤ (negsuc 0 +ℤ y)

@@ -55,10 +55,6 @@ back-none x = record { back = λ s i rest e. ap (got x) (omega arith) }
 pub back-judged : {A : Type 0} {f : Reader A} (checks : A → List Check) {w : List ℕ} {x : A} → Back f w x → Passes (checks x) → Back (f judged checks) w x
 back-judged checks {w} {x} b p = record { back = λ s i rest e. rw (b .back s i rest e, passes-all (checks x) p) }
 
-pub back-either : {A : Type 0} {f g : Reader A} {w : List ℕ} {x : A} (b : Bool) → (b ≡ true → Back f w x) → (b ≡ false → Back g w x) → Back (cond b f g) w x
-back-either true p q = p refl
-back-either false p q = q refl
-
 joined-last : {A : Type 0} (w : A → List ℕ) (xs : List A) (x : A) → joined w (xs ++ (x ∷ [])) ≡ joined w xs ++ w x
 joined-last w [] x = append-nil (w x)
 joined-last w (y ∷ xs) x = rw (joined-last w xs x) (sym (append-assoc (w y) (joined w xs) (w x)))

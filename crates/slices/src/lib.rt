@@ -9,8 +9,8 @@ pub fn byte_at(s: &[u8], k: usize) -> u8
     if k < s.len() { s[k] } else { 0 }
 }
 
-pub fn word_at(s: &[i32], k: usize) -> i32
-    ensures { λ r. ⌜ r ≡ getD (now (s .entry)) k (pos 0) ⌝ }
+pub fn word_at(words: &[i32], k: usize) -> i32
+    ensures { λ r. ⌜ r ≡ getD (now (words .entry)) k (pos 0) ⌝ }
 {
-    if k < s.len() { s[k] } else { 0 }
+    if k < words.len() { words[k] } else { 0 }
 }

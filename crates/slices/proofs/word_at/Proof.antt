@@ -17,7 +17,7 @@ returns : tie.Need-returns
 returns c = search needs
 
 returns-2 : tie.Need-returns-2
-returns-2 c = sym (List·getD-eq-default (c .before .args .s .now) (pos 0) (omega arith))
+returns-2 c = sym (List·getD-eq-default (c .before .args .words .now) (pos 0) (omega arith))
 
 pub word-at-spec : {M : Type 1} → statement M
 word-at-spec = tie.close (tie.spec mul-result shared-slice-copy-out-result returns returns-2)
