@@ -5,6 +5,7 @@ use Prim.Native.Nat.{ℕ, _+_, _*_, _≤_, _<_}
 use native.Mathlib.Omega.{arith}
 use lib.ListN.{length, getD, set, drop-of-length-le}
 use lib.Seq.{length-sets}
+use Rattle.basis.specs.Limits.{mostClauses}
 use Rattle.basis.specs.Refusals.{accepted}
 use Rattle.lists.specs.Arrays.{exactly}
 use Rattle.calculus.specs.Clauses as calculus
@@ -31,7 +32,7 @@ use Rattle.rules.proofs.Told.{admitted-reached, steps-keep-reached}
 use Rattle.steps.specs.Records.{fileAnswer, stepAnswer}
 use Rattle.steps.specs.declared.StepRead.{StepRead}
 use Rattle.steps.proofs.Files.{Ahead, Reads, Stepping, file-reads, step-ahead}
-use Rattle.state.specs.States.{lookedAt, mostClauses, newRun, packedTable, slotOf}
+use Rattle.state.specs.States.{lookedAt, newRun, packedTable, slotOf}
 use Rattle.state.specs.declared.State.{State}
 use Rattle.state.proofs.Opening.{new-is}
 use Rattle.state.proofs.Table.{looks-at, pastTable, room, table-learns, table-same}
