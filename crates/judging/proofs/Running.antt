@@ -1,10 +1,11 @@
 -- The run so far: what holds before each turn of the loop over the steps, and how a turn goes on from it.
 use mathlib.Core.Path.{_≡_, refl, sym, ap, subst, _∙_}
-use mathlib.Core.List.{List, [], _∷_, _++_, append-assoc, append-nil}
+use mathlib.Core.List.{List, [], _∷_, _++_, append-assoc, append-nil, map}
 use Prim.Native.Nat.{ℕ, _+_, _*_, _≤_, _<_}
 use native.Mathlib.Omega.{arith}
 use lib.ListN.{length, getD, set, drop-of-length-le}
 use lib.Seq.{length-sets}
+use Rattle.basis.specs.Limits.{mostClauses}
 use Rattle.basis.specs.Refusals.{accepted}
 use Rattle.lists.specs.Arrays.{exactly}
 use Rattle.calculus.specs.Clauses as calculus
@@ -14,12 +15,12 @@ use Rattle.calculus.specs.States.{clauses}
 use Rattle.calculus.proofs.Answers.{number-in-table}
 use Rattle.basis.specs.Numbers.{whole}
 use Rattle.runfile.specs.Readers.{got}
-use Rattle.runfile.specs.File.{File, file, mostSteps, step}
+use Rattle.runfile.specs.File.{File, file, header, mostSteps, step}
 use Rattle.runfile.specs.Claims.{opened}
 use Rattle.fields.specs.declared.Cursor.the-variants as C
 use Rattle.clauses.specs.Records.{packed}
-use Rattle.admission.specs.Offered as admission
 use Rattle.clauses.specs.declared.Clause.{Clause}
+use Rattle.header.specs.Records.{inputOf}
 use Rattle.header.specs.declared.HeaderRead.{HeaderRead}
 use Rattle.rules.specs.Answers.{RunOf, Told, Answered, Handed}
 use Rattle.rules.specs.Records.{stepOf}
@@ -31,9 +32,7 @@ use Rattle.rules.proofs.Told.{admitted-reached, steps-keep-reached}
 use Rattle.steps.specs.Records.{fileAnswer, stepAnswer}
 use Rattle.steps.specs.declared.StepRead.{StepRead}
 use Rattle.steps.proofs.Files.{Ahead, Reads, Stepping, file-reads, step-ahead}
-use Rattle.state.specs.States.{lookedAt, mostClauses, newRun, packedTable, slotOf}
-use Rattle.state.specs.declared.State.{State}
-use Rattle.state.proofs.Opening.{new-is}
+use Rattle.state.specs.States.{lookedAt, newRun, packedTable, slotOf}
 use Rattle.state.proofs.Table.{looks-at, pastTable, room, table-learns, table-same}
 use Rattle.text.specs.Text.{Wrote}
 use Rattle.text.proofs.Text.{and-then, as-text}
@@ -66,7 +65,8 @@ same-long {d} {d′} {w} {i} a = ap length (a .left) ∙ length-sets d i w
 -- ---- before the first step
 
 pub start : (s d : List ℕ) (h : HeaderRead) (first : ℕ) {run : Run} {table : List Clause} → h ≡ fileAnswer s → h .at ≡ C.At first
-    → run ≡ newRun (h .constants) (h .input) → table ≡ exactly mostClauses (packed calculus.noClause) (h .clauses) → SoFar s d (h .steps) d run table first 0 0
+    → run ≡ newRun (h .constants) (h .input) → table ≡ exactly mostClauses (packed calculus.noClause) (map packed (inputOf (header s 0))) → SoFar s d (h .steps) d run table first 0 0
+unfolding packedTable
 start s d h first {run} {table} e q r t = record {
   says = F;
   next = f .next;
@@ -77,8 +77,7 @@ start s d h first {run} {table} e q r t = record {
   few = omega (arith, ap (λ (k : HeaderRead). k .steps) (f .head), f .sayable .few-steps);
   state = opened F;
   run-of = record { reached = admitted-reached (opened F) (f .sayable .admitted); is = r ∙ (λ i. newRun (f .head i .constants) (f .head i .input)) };
-  table-is = t ∙ ap (λ (k : HeaderRead). exactly mostClauses blank (k .clauses)) (f .head)
-      ∙ ap (λ (q : State). q .table) (new-is (F .constants) (length (F .input)) (F .arities) (admission.packedTable (F .input)) (F .input) refl refl (f .sayable .admitted .few-clauses));
+  table-is = t ∙ ap (λ (l : List calculus.Clause). exactly mostClauses (packed calculus.noClause) (map packed l)) (f .input ∙ sym (append-nil (F .input)));
   lines = [];
   wrote = record { next = omega arith; left = refl };
   short = omega arith;
@@ -90,9 +89,6 @@ start s d h first {run} {table} e q r t = record {
 
     F : File
     F = f .says
-
-    blank : Clause
-    blank = packed calculus.noClause
 
 -- ---- a turn
 

@@ -8,20 +8,20 @@ ghost use Rattle.steps.specs.Records.{fileAnswer};
 ghost use Rattle.listing.specs.Lines.{mostLine};
 ghost use Rattle.judging.specs.Judging.{Says, Shows};
 ghost use Rattle.judging.specs.Running.{Ran, placeOf};
+use basis::MOST_CLAUSES;
 use clauses::Clause;
 use fields::Cursor;
 use header::HeaderRead;
+use header::read_clauses;
 use inspection::put_state;
 use listing::put_accepted;
 use listing::put_bad;
 use listing::put_last;
 use listing::put_refused;
 use rules::Run;
-use state::MOST_CLAUSES;
 use state::looked_at;
 use state::new_run;
 use state::slot_of;
-use state::with_room;
 use steps::read_file;
 use steps::step_at;
 
@@ -82,10 +82,9 @@ fn run_steps(file: &[u8], head: HeaderRead, first: usize, out: &mut [u8]) -> End
     requires { ⌜ (head ≡ fileAnswer (now file)) × (head .at ≡ C.At first) × (mostSteps * mostLine ≤ length (now out)) ⌝ }
     ensures { λ r. ⌜ Ran (now (file .entry)) (now (out .entry)) (now (out .exit)) r ⌝ }
 {
-    let clauses = head.clauses;
     let n = head.steps as usize;
     let mut run = new_run(head.constants, head.input);
-    let mut table = with_room(clauses);
+    let mut table = read_clauses(file);
     let mut cursor = first;
     let mut at: usize = 0;
     let mut j: usize = 0;

@@ -8,7 +8,7 @@ use native.Mathlib.Omega.{arith}
 use lib.Dec.{T, eqb, leb, leb→le}
 use lib.ListN.{List·getD-map, length, getD, set, length-append, length-map}
 use borrow.Author.Tests.{eq-eqb, le-leb}
-use Rattle.basis.specs.Limits.{mostEntries, mostPredicates}
+use Rattle.basis.specs.Limits.{mostClauses, mostEntries, mostPredicates}
 use Rattle.basis.specs.Numbers.{whole}
 use Rattle.basis.specs.Refusals.{accepted}
 use Rattle.lists.specs.Arrays.{exactly}
@@ -40,7 +40,7 @@ use Rattle.trail.specs.Entries.{entryAs, trailOf}
 use Rattle.trail.specs.declared.Kind.{Kind}
 use Rattle.trail.specs.declared.Kind.the-variants.{Background, Propagated, Decided}
 use Rattle.trail.specs.declared.Entry as entries
-use Rattle.state.specs.States.{StateOf, lookedAt, mostClauses, packedAnswer, packedTable, slotOf}
+use Rattle.state.specs.States.{StateOf, lookedAt, packedAnswer, packedTable, slotOf}
 use Rattle.state.specs.declared.Answered.{Answered}
 use Rattle.state.specs.declared.State.{State}
 

@@ -2,11 +2,11 @@
 use mathlib.Core.Path.{_≡_}
 use mathlib.Core.List.{List, [], _∷_, map, List·Memᴰ}
 use mathlib.Core.Bool.{cond, true, false}
-use Prim.Native.Nat.{ℕ, _+_, _-_, _≤_}
+use Prim.Native.Nat.{ℕ, _-_, _≤_}
 use lib.Dec.{eqb}
 use lib.ListN.{length, getD}
 use Rattle.admission.specs.Offered as admission
-use Rattle.basis.specs.Limits.{mostEntries, mostInput, mostLearned, mostPredicates}
+use Rattle.basis.specs.Limits.{mostClauses, mostEntries, mostInput, mostPredicates}
 use Rattle.basis.specs.Numbers.{whole}
 use Rattle.basis.specs.Refusals.{accepted}
 use Rattle.lists.specs.Arrays.{exactly}
@@ -29,10 +29,7 @@ use Rattle.state.specs.declared.State.{State}
 use Rattle.state.specs.declared.Answered.{Answered}
 use Rattle.state.specs.declared.Opened.{Opened}
 
--- "Learned clauses are numbered after the input ones": one table for both, blank past them.
-abbrev pub mostClauses : ℕ
-mostClauses = mostInput + mostLearned
-
+-- The table of the input clauses and the learned ones after them, blank past them
 unfoldable pub packedTable : List calculus.Clause → List Clause
 packedTable cs = exactly mostClauses (packed calculus.noClause) (map packed cs)
 

@@ -1,12 +1,13 @@
 // A state with its clauses: only admission makes it and only steps change it.
 ghost use mathlib.Core.Path.{_≡_};
 ghost use Prim.Native.Nat.{_≤_, _<_};
-ghost use Rattle.basis.specs.Limits.{mostPredicates};
+ghost use Rattle.basis.specs.Limits.{mostClauses, mostPredicates};
 ghost use Rattle.lists.specs.Arrays.{exactly};
 ghost use Rattle.calculus.specs.Clauses as calculus;
 ghost use Rattle.clauses.specs.Records.{packed};
 ghost use Rattle.admission.specs.Offered.{offeredArities, offeredTable};
-ghost use Rattle.state.specs.States.{Answers, IsNew, Kept, lookedAt, mostClauses, newRun, opened, slotOf};
+ghost use Rattle.state.specs.States.{Answers, IsNew, Kept, lookedAt, newRun, opened, slotOf};
+use basis::MOST_CLAUSES;
 use basis::MOST_ENTRIES;
 use basis::MOST_INPUT;
 use basis::MOST_PREDICATES;
@@ -16,9 +17,6 @@ use clauses::no_instanced;
 use rules::Run;
 use rules::Step;
 use trail::empty_trail;
-
-// "At most 48 input and 48 learned clauses": one table for both.
-pub const MOST_CLAUSES: usize = 96;
 
 // "A state is predicates with arities, trail, input clauses, learned clauses, constants, level k, and a conflict or none." The fields are
 // private: what stands here was admitted or learned.

@@ -21,11 +21,11 @@ cast-n c = search needs
 new-run-requires : tie.Need-new-run-requires Inv-loop μ-loop
 new-run-requires c κs = search needs
 
-with-room-requires : tie.Need-with-room-requires Inv-loop μ-loop
-with-room-requires c κs = search needs
+read-clauses-requires : tie.Need-read-clauses-requires Inv-loop μ-loop
+read-clauses-requires c κs = search needs
 
 loop-holds : tie.Need-loop-holds Inv-loop μ-loop
-loop-holds c = start (now (c .before .before .before .before .before .before .args .file)) (now (c .before .before .before .before .before .before .args .out)) (c .before .before .before .before .before .before .args .head) (c .before .before .before .before .before .before .args .first) (c .before .before .before .before .before .before .pre .0) (c .before .before .before .before .before .before .pre .1) (c .before .new-run .ensures) (c .with-room .ensures)
+loop-holds c = start (now (c .before .before .before .before .before .args .file)) (now (c .before .before .before .before .before .args .out)) (c .before .before .before .before .before .args .head) (c .before .before .before .before .before .args .first) (c .before .before .before .before .before .pre .0) (c .before .before .before .before .before .pre .1) (c .before .new-run .ensures) (c .read-clauses .ensures)
 
 step-at-requires : tie.Need-step-at-requires Inv-loop μ-loop
 step-at-requires c κs = search needs
@@ -49,7 +49,7 @@ add-put-refused : tie.Need-add-put-refused Inv-loop μ-loop
 add-put-refused c = search needs
 
 put-refused-requires : tie.Need-put-refused-requires Inv-loop μ-loop
-put-refused-requires c κs = line-fits (c .before .before .before .before .before .before .before .before .before .before .before .loop .inv) (c .before .before .before .before .before .before .before .before .before .before .loop-test .taken) (c .before .before .before .before .before .before .before .before .before .before .before .before .before .before .before .before .before .before .pre .2)
+put-refused-requires c κs = line-fits (c .before .before .before .before .before .before .before .before .before .before .before .loop .inv) (c .before .before .before .before .before .before .before .before .before .before .loop-test .taken) (c .before .before .before .before .before .before .before .before .before .before .before .before .before .before .before .before .before .pre .2)
 
 ended-with-requires : tie.Need-ended-with-requires Inv-loop μ-loop
 ended-with-requires c κs = search needs
@@ -79,7 +79,7 @@ add-put-accepted : tie.Need-add-put-accepted Inv-loop μ-loop
 add-put-accepted c = search needs
 
 put-accepted-requires : tie.Need-put-accepted-requires Inv-loop μ-loop
-put-accepted-requires c κs = line-fits (c .before .before .before .before .before .before .before .before .before .before .before .before .before .loop .inv) (c .before .before .before .before .before .before .before .before .before .before .before .before .loop-test .taken) (c .before .before .before .before .before .before .before .before .before .before .before .before .before .before .before .before .before .before .before .before .pre .2)
+put-accepted-requires c κs = line-fits (c .before .before .before .before .before .before .before .before .before .before .before .before .before .loop .inv) (c .before .before .before .before .before .before .before .before .before .before .before .before .loop-test .taken) (c .before .before .before .before .before .before .before .before .before .before .before .before .before .before .before .before .before .before .before .pre .2)
 
 place-of-requires : tie.Need-place-of-requires Inv-loop μ-loop
 place-of-requires c κs = search needs
@@ -111,7 +111,7 @@ run-steps-spec =
     μ-loop
     cast-n
     new-run-requires
-    with-room-requires
+    read-clauses-requires
     loop-holds
     step-at-requires
     looked-at-requires

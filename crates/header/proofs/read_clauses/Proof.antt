@@ -1,0 +1,44 @@
+-- `header::read_clauses` meets its contract.
+use denote.Ref.{now}
+use Rattle.fields.proofs.Laws.{told-view}
+use Rattle.header.proofs.Tables.{table-read, table-refused}
+use borrow.Author.Needs.{needs}
+use Rattle.header.proofs.read_clauses.Statement.{statement}
+use Rattle.header.proofs.read_clauses.Tie as tie
+
+front-at-requires : tie.Need-front-at-requires
+front-at-requires c κs = search needs
+
+clauses-at-requires : tie.Need-clauses-at-requires
+clauses-at-requires c κs = (c .before .front-at .ensures .few, c .before .front-at .ensures .held)
+
+step-count-at-requires : tie.Need-step-count-at-requires
+step-count-at-requires c κs = search needs
+
+enum-known-end : tie.Need-enum-known-end
+enum-known-end c = search needs
+
+enum-known-end-2 : tie.Need-enum-known-end-2
+enum-known-end-2 c = search needs
+
+no-clause-requires : tie.Need-no-clause-requires
+no-clause-requires c κs = search needs
+
+returns : tie.Need-returns
+returns c = table-read (now (c .before .before .before .before .before .before .before .before .before .args .s)) (c .before .before .before .before .before .before .before .front-at .result) (c .before .before .before .before .before .before .before .front-at .ensures) (c .before .before .before .before .before .clauses-at .result .at) (c .before .before .before .before .step-count-at .result .at) (c .before .before .before .before .step-count-at .result .value) (told-view (c .before .before .before .before .step-count-at .ensures .0)) (c .before .before .before .before .before .clauses-at .result .clauses) (c .before .before .before .before .before .clauses-at .ensures .0) (c .before .before .before .before .before .clauses-at .ensures .1) (c .before .before .end .given .0 .0) (c .before .before .end .given .1)
+
+returns-2 : tie.Need-returns-2
+returns-2 c = rw (c .no-clause .ensures) (table-refused (now (c .before .before .before .before .before .before .before .before .before .args .s)) (c .before .before .before .before .before .before .before .front-at .result) (c .before .before .before .before .before .before .before .front-at .ensures) (c .before .before .before .before .before .clauses-at .result .at) (c .before .before .before .before .step-count-at .result .at) (c .before .before .before .before .step-count-at .result .value) (told-view (c .before .before .before .before .step-count-at .ensures .0)) (c .before .before .before .before .before .clauses-at .result .clauses) (c .before .before .before .before .before .clauses-at .ensures .0) (c .before .before .end2 .given .0 .0) (c .before .before .end2 .given .0 .1 .0) (c .before .before .end2 .given .1))
+
+pub read-clauses-spec : {M : Type 1} → statement M
+read-clauses-spec =
+    tie.close
+    (tie.spec
+    front-at-requires
+    clauses-at-requires
+    step-count-at-requires
+    enum-known-end
+    enum-known-end-2
+    no-clause-requires
+    returns
+    returns-2)
