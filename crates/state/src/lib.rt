@@ -8,7 +8,6 @@ ghost use Rattle.clauses.specs.Records.{packed};
 ghost use Rattle.admission.specs.Offered.{offeredArities, offeredTable};
 ghost use Rattle.state.specs.States.{Answers, IsNew, Kept, lookedAt, newRun, opened, slotOf};
 use basis::MOST_CLAUSES;
-use basis::MOST_ENTRIES;
 use basis::MOST_INPUT;
 use basis::MOST_PREDICATES;
 use clauses::Clause;
@@ -16,6 +15,8 @@ use clauses::no_clause;
 use clauses::no_instanced;
 use rules::Run;
 use rules::Step;
+use rules::last_slot;
+use trail::Entry;
 use trail::empty_trail;
 
 // "A state is predicates with arities, trail, input clauses, learned clauses, constants, level k, and a conflict or none." The fields are
@@ -145,21 +146,12 @@ pub fn admit(
 
 // ---- steps
 
-// The number of the clause that a step looks at: the named one; Resolve looks at the last entry's, and where no entry can be last at none.
-pub fn looked_at(run: Run, x: Step) -> u8
-    ensures { λ r. ⌜ r ≡ lookedAt run x ⌝ }
+// The number of the clause that a step looks at: the named one; Resolve looks at the last entry's, which is none's where the trail is empty.
+pub fn looked_at(last: Entry, x: Step) -> u8
+    ensures { λ r. ⌜ r ≡ lookedAt last x ⌝ }
 {
     if x.rule == 4 {
-        let length = run.length;
-        if length < 1 {
-            return 0;
-        }
-        if MOST_ENTRIES < length as usize {
-            return 0;
-        }
-        let k = length as usize - 1;
-        let e = run.trail[k];
-        return e.clause;
+        return last.clause;
     }
     x.clause
 }
@@ -185,7 +177,9 @@ impl State {
         ensures { λ a. ⌜ Answers self x a ⌝ }
     {
         let run = self.run;
-        let c = looked_at(run, x);
+        let slot = last_slot(run.length);
+        let last = run.trail[slot];
+        let c = looked_at(last, x);
         let k = slot_of(c);
         let clause = self.table[k];
         let a = run.step(clause, x);
