@@ -401,8 +401,8 @@ pub fn read_clauses(s: &[u8]) -> [Clause; MOST_CLAUSES]
     }
     let t = step_count_at(s, past);
     let end = t.at;
-    match end {
-        Cursor::At { place } => clauses,
-        Cursor::Refused { number, place } => [none; MOST_CLAUSES],
+    if let Cursor::Refused { number, place } = end {
+        return [none; MOST_CLAUSES];
     }
+    clauses
 }

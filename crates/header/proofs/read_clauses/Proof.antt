@@ -60,14 +60,14 @@ step-count-at-requires c κs = search needs
 enum-known-end : tie.Need-enum-known-end Inv-loop μ-loop
 enum-known-end c = search needs
 
-enum-known-end-2 : tie.Need-enum-known-end-2 Inv-loop μ-loop
-enum-known-end-2 c = search needs
-
 returns : tie.Need-returns Inv-loop μ-loop
-returns c = let e : c .before .before .before .before .before .loop .j ≡ c .before .before .before .before .before .before .before .before .before .front-at .result .input = omega arith in table-read (now (c .before .before .before .before .before .before .before .before .before .before .before .args .s)) (c .before .before .before .before .before .before .before .before .before .front-at .result) (c .before .before .before .before .before .before .before .before .before .front-at .ensures) (c .before .before .before .before .before .loop .past) (c .before .before .before .step-count-at .result .at) (c .before .before .before .step-count-at .result .value) (told-view (c .before .before .before .step-count-at .ensures .0)) (c .before .before .before .before .before .loop .clauses) (rw e at (c .before .before .before .before .before .loop .inv .1)) (rw e at (c .before .before .before .before .before .loop .inv .2)) (c .before .end .given .0 .0) (c .before .end .given .1)
+returns c = let e : c .before .before .before .before .before .loop .j ≡ c .before .before .before .before .before .before .before .before .before .front-at .result .input = omega arith in rw (c .before .before .before .before .before .before .no-clause .ensures) (table-refused (now (c .before .before .before .before .before .before .before .before .before .before .before .args .s)) (c .before .before .before .before .before .before .before .before .before .front-at .result) (c .before .before .before .before .before .before .before .before .before .front-at .ensures) (c .before .before .before .before .before .loop .past) (c .before .before .before .step-count-at .result .at) (c .before .before .before .step-count-at .result .value) (told-view (c .before .before .before .step-count-at .ensures .0)) (c .before .before .before .before .before .loop .clauses) (rw e at (c .before .before .before .before .before .loop .inv .1)) (c .before .end .given .0 .0) (c .before .end .given .0 .1 .0) (c .before .end .given .1))
+
+enum-told : tie.Need-enum-told Inv-loop μ-loop
+enum-told c = search needs
 
 returns-2 : tie.Need-returns-2 Inv-loop μ-loop
-returns-2 c = let e : c .before .before .before .before .before .loop .j ≡ c .before .before .before .before .before .before .before .before .before .front-at .result .input = omega arith in rw (c .before .before .before .before .before .before .no-clause .ensures) (table-refused (now (c .before .before .before .before .before .before .before .before .before .before .before .args .s)) (c .before .before .before .before .before .before .before .before .before .front-at .result) (c .before .before .before .before .before .before .before .before .before .front-at .ensures) (c .before .before .before .before .before .loop .past) (c .before .before .before .step-count-at .result .at) (c .before .before .before .step-count-at .result .value) (told-view (c .before .before .before .step-count-at .ensures .0)) (c .before .before .before .before .before .loop .clauses) (rw e at (c .before .before .before .before .before .loop .inv .1)) (c .before .end2 .given .0 .0) (c .before .end2 .given .0 .1 .0) (c .before .end2 .given .1))
+returns-2 c = let e : c .before .before .before .before .loop .j ≡ c .before .before .before .before .before .before .before .before .front-at .result .input = omega arith in table-read (now (c .before .before .before .before .before .before .before .before .before .before .args .s)) (c .before .before .before .before .before .before .before .before .front-at .result) (c .before .before .before .before .before .before .before .before .front-at .ensures) (c .before .before .before .before .loop .past) (c .before .before .step-count-at .result .at) (c .before .before .step-count-at .result .value) (told-view (c .before .before .step-count-at .ensures .0)) (c .before .before .before .before .loop .clauses) (rw e at (c .before .before .before .before .loop .inv .1)) (rw e at (c .before .before .before .before .loop .inv .2)) (c .enum-told .given .0 .0) (c .enum-told .given .1)
 
 pub read-clauses-spec : {M : Type 1} → statement M
 read-clauses-spec =
@@ -87,6 +87,6 @@ read-clauses-spec =
     loop-again
     step-count-at-requires
     enum-known-end
-    enum-known-end-2
     returns
+    enum-told
     returns-2)
