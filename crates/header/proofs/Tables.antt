@@ -9,7 +9,7 @@ use lib.Seq.{length-take-le, take-suc-set}
 use Rattle.basis.specs.Limits.{mostClauses, mostPredicates}
 use Rattle.lists.proofs.Arrays.{exactly-length, exactly-none, set-exactly}
 use Rattle.lists.specs.Arrays.{exactly}
-use Rattle.header.specs.Records.{Fronts, Held, Packed, arities, inputOf, packedHeader}
+use Rattle.header.specs.Records.{Fronts, Held, arities, inputOf, packedHeader}
 use Rattle.header.specs.declared.Front.{Front}
 use Rattle.header.specs.declared.Predicates.{Predicates}
 use Rattle.calculus.specs.Clauses.{Clause, noClause}
@@ -23,6 +23,10 @@ use Rattle.runfile.specs.File.{Header, clause, header, stepCount}
 use Rattle.runfile.specs.Readers.{Reader, bad, got, times}
 use Rattle.fields.specs.declared.Cursor.the-variants as C
 use Rattle.clauses.specs.declared.Clause as records
+
+-- A table of clauses whose first j are the records of what they say, the others blank
+abbrev pub Packed : List records.Clause → ℕ → Type 0
+Packed l j = l ≡ exactly mostClauses (packed noClause) (map packed (map clauseOf (take j l)))
 
 -- What the first slots say, one slot more
 says-more : (l : List records.Clause) (j : ℕ) (x : records.Clause) → j < length l → map clauseOf (take (j + 1) (set l j x)) ≡ map clauseOf (take j l) ++ (clauseOf x ∷ [])

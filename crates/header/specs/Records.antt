@@ -1,14 +1,11 @@
 -- The records of predicates and of a header.
 use mathlib.Core.Path.{_≡_}
-use mathlib.Core.List.{List, [], map}
+use mathlib.Core.List.{List, []}
 use Prim.Native.Nat.{ℕ, _≤_}
 use lib.ListN.{length, take}
-use Rattle.basis.specs.Limits.{mostClauses, mostInput, mostPredicates}
+use Rattle.basis.specs.Limits.{mostInput, mostPredicates}
 use Rattle.lists.specs.Arrays.{exactly}
-use Rattle.calculus.specs.Clauses as calculus
-use Rattle.calculus.specs.Clauses.{noClause}
-use Rattle.clauses.specs.declared.Clause.{Clause}
-use Rattle.clauses.specs.Records.{clauseOf, packed}
+use Rattle.calculus.specs.Clauses.{Clause}
 use Rattle.runfile.specs.Readers.{Got, got, bad}
 use Rattle.runfile.specs.File.{Header, fromClauses, header}
 use Rattle.fields.specs.Views.{Filled, after}
@@ -26,10 +23,6 @@ pub record Held (ps : Predicates) : Type 0 where
   pub few : ps .count ≤ mostPredicates
   pub filled : Filled mostPredicates 0 (ps .arities) (ps .count)
 
--- A table of clauses whose first j are the records of what they say, the others blank
-abbrev pub Packed : List Clause → ℕ → Type 0
-Packed l j = l ≡ exactly mostClauses (packed noClause) (map packed (map clauseOf (take j l)))
-
 -- What stands before the input clauses of the file s: the clauses and the number of steps, read on from there, make its header.
 pub record Fronts (s : List ℕ) (r : Front) : Type 0 where
   pub few : r .input ≤ mostInput
@@ -37,7 +30,7 @@ pub record Fronts (s : List ℕ) (r : Front) : Type 0 where
   pub rest : after (r .at) (fromClauses (r .constants) (arities (r .predicates)) (r .input) s) ≡ header s 0
 
 -- The input clauses of a header that is read; none where it is refused
-abbrev pub inputOf : Got Header → List calculus.Clause
+abbrev pub inputOf : Got Header → List Clause
 inputOf (got h next) = h .input
 inputOf (bad n p) = []
 

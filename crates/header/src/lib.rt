@@ -4,7 +4,7 @@ ghost use mathlib.Core.Path.{_≡_};
 ghost use Prim.Native.Nat.{_≤_};
 ghost use lib.ListN.{take};
 ghost use Rattle.basis.specs.Atoms.{noAtom};
-ghost use Rattle.basis.specs.Limits.{mostAtoms, mostClauses, mostLiterals, mostInput, mostPredicates, mostArguments};
+ghost use Rattle.basis.specs.Limits.{mostAtoms, mostClauses, mostLiterals, mostPredicates, mostArguments};
 ghost use Rattle.lists.specs.Arrays.{exactly};
 ghost use Rattle.calculus.specs.Clauses.{noClause, noLiteral};
 ghost use Rattle.calculus.specs.Class.{arityOf};
@@ -12,7 +12,7 @@ ghost use Rattle.clauses.specs.Records.{clauseOf, packed};
 ghost use Rattle.runfile.specs.Readers.{bad, times};
 ghost use Rattle.runfile.specs.File.{count, atom, argument, literal, clauseFields, clause, header};
 ghost use Rattle.fields.specs.Views.{after, reached, viewed, Filled};
-ghost use Rattle.header.specs.Records.{Fronts, Held, Packed, arities, inputOf, packedHeader};
+ghost use Rattle.header.specs.Records.{Fronts, Held, arities, inputOf, packedHeader};
 use admission::admit_clause;
 use basis::Atom;
 use basis::Literal;
@@ -72,11 +72,6 @@ pub struct LiteralsRead {
 
 pub struct ClauseRead {
     pub clause: Clause,
-    pub at: Cursor,
-}
-
-pub struct ClausesRead {
-    pub clauses: [Clause; MOST_CLAUSES],
     pub at: Cursor,
 }
 
@@ -291,30 +286,6 @@ fn clauses_end(s: &[u8], at: Cursor, n: u8, ps: Predicates) -> Cursor
     past
 }
 
-// n clauses in the table that has room for the learned ones
-fn clauses_at(s: &[u8], at: Cursor, n: u8, ps: Predicates) -> ClausesRead
-    requires { ⌜ (n ≤ mostInput) × Held ps ⌝ }
-    ensures { λ r. ⌜ (viewed (r .at) (map clauseOf (take n (r .clauses))) ≡ after at (times n (clause (arities ps)) (now (s .entry)))) × Packed (r .clauses) n ⌝ }
-{
-    let none = no_clause();
-    let count = n as usize;
-    let mut clauses = [none; MOST_CLAUSES];
-    let mut end = at;
-    let mut j: usize = 0;
-    while j < count {
-        let read = clause_at(s, end, ps);
-        let c = read.clause;
-        let next = read.at;
-        clauses[j] = c;
-        end = next;
-        j += 1;
-    }
-    ClausesRead {
-        clauses: clauses,
-        at: end,
-    }
-}
-
 // ---- the header
 
 // n predicates with an arity each
@@ -415,15 +386,23 @@ pub fn read_clauses(s: &[u8]) -> [Clause; MOST_CLAUSES]
     let front = front_at(s);
     let begin = front.at;
     let predicates = front.predicates;
-    let read = clauses_at(s, begin, front.input, predicates);
-    let past = read.at;
+    let count = front.input as usize;
+    let none = no_clause();
+    let mut clauses = [none; MOST_CLAUSES];
+    let mut past = begin;
+    let mut j: usize = 0;
+    while j < count {
+        let read = clause_at(s, past, predicates);
+        let c = read.clause;
+        let next = read.at;
+        clauses[j] = c;
+        past = next;
+        j += 1;
+    }
     let t = step_count_at(s, past);
     let end = t.at;
-    match end {
-        Cursor::At { place } => read.clauses,
-        Cursor::Refused { number, place } => {
-            let none = no_clause();
-            [none; MOST_CLAUSES]
-        }
+    if let Cursor::Refused { number, place } = end {
+        return [none; MOST_CLAUSES];
     }
+    clauses
 }
