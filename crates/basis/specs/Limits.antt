@@ -1,5 +1,5 @@
 -- The paper's limits, each named once.
-use Prim.Native.Nat.{ℕ}
+use Prim.Native.Nat.{ℕ, _+_}
 
 -- "A clause is a record of at most 12 variables, 24 atoms and 8 literals."
 abbrev pub mostVariables : ℕ
@@ -17,6 +17,10 @@ mostInput = 48
 
 abbrev pub mostLearned : ℕ
 mostLearned = 48
+
+-- "Learned clauses are numbered after the input ones": one table for both.
+abbrev pub mostClauses : ℕ
+mostClauses = mostInput + mostLearned
 
 abbrev pub mostPredicates : ℕ
 mostPredicates = 8

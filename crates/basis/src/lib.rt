@@ -17,6 +17,8 @@ pub const MOST_ENTRIES: usize = 160;
 
 pub const MOST_LEARNED: usize = 48;
 
+pub const MOST_CLAUSES: usize = 96;
+
 pub const MOST_TESTED: usize = 184;
 
 pub const MOST_C: i32 = 1000000;

@@ -14,7 +14,7 @@ use Rattle.lists.specs.Arrays.{exactly}
 use Rattle.fields.specs.Views.{Filled, Told, after, given, reached, refusedFrom, viewed}
 use Rattle.fields.specs.declared.Cursor.{Cursor}
 use Rattle.calculus.specs.Checks.{Check, firstRefusal}
-use Rattle.runfile.specs.Readers.{Got, Reader, _judged_, _then_, bad, give, got, times}
+use Rattle.runfile.specs.Readers.{Got, Reader, _judged_, _then_, bad, give, got, onward, times}
 use Rattle.fields.specs.declared.Cursor.the-variants as C
 
 -- A value and the place after it are no refusal.
@@ -150,3 +150,29 @@ module _ {A : Type 0} (m : ℕ) (d : A) where
       let k : length (take j l) ≡ j = length-take-le j l (omega arith) in
       let z : set (exactly m d (take j l)) j x ≡ exactly m d (take j l ++ (x ∷ [])) = rw k at (set-exactly d m (take j l) x (omega arith)) in
       rw (add-one j, take-suc-set l j x (omega arith)) (ap (λ (t : List A). set t j x) e ∙ z)
+
+-- ---- where readings end
+
+module _ {A : Type 0} where
+  pub reached-of : (c : Cursor) (x : A) {g : Got A} → viewed c x ≡ g → c ≡ reached g
+  reached-of c x {g} e = rw (sym e) (by c)
+    where
+      by : (c : Cursor) → c ≡ reached (viewed c x)
+      by (C.At j) = refl
+      by (C.Refused n p) = refl
+
+  pub ends-more : (s : List ℕ) (f : Reader A) (c₀ c₁ c₂ : Cursor) (j : ℕ) → c₁ ≡ reached (after c₀ (times j f s)) → c₂ ≡ reached (after c₁ (f s)) → c₂ ≡ reached (after c₀ (times (j + 1) f s))
+  unfolding times
+  ends-more s f (C.At i) c₁ c₂ j e h = rw (add-one j) (by (times j f s i) e)
+    where
+      on : (xs : List A) (g : Got A) → c₂ ≡ reached g → c₂ ≡ reached (onward g (λ x k. got (xs ++ (x ∷ [])) k))
+      on xs (got x k) q = q
+      on xs (bad n p) q = q
+
+      by : (g : Got (List A)) → c₁ ≡ reached g → c₂ ≡ reached (onward g (λ xs k. onward (f s k) (λ x l. got (xs ++ (x ∷ [])) l)))
+      by (got xs k) q = on xs (f s k) (rw q at h)
+      by (bad n p) q = rw q at h
+  ends-more s f (C.Refused n p) c₁ c₂ j e h = rw e at h
+
+pub ends-none : {A : Type 0} (s : List ℕ) (f : Reader A) (c : Cursor) → c ≡ reached (after c (times 0 f s))
+ends-none s f c = reached-of c [] (times-none s f c)

@@ -25,13 +25,13 @@ use Rattle.calculus.specs.Checks.{between, firstRefusal}
 use Rattle.calculus.specs.Class.{arityOf, clauseRefusal, properAtom, properLiteral, withinLimits}
 use Rattle.calculus.specs.Clauses.{Clause, arguments, noLiteral}
 use Rattle.clauses.specs.Records.{clauseOf, packed}
-use Rattle.fields.proofs.Laws.{Leads, filled-long, held, leads, leads-give, leads-then, nothing, refused}
-use Rattle.fields.specs.Views.{Filled, after, refusedFrom, viewed}
+use Rattle.fields.proofs.Laws.{Leads, filled-long, held, leads, leads-give, leads-then, nothing, refused, told-view}
+use Rattle.fields.specs.Views.{Filled, after, given, reached, refusedFrom, viewed}
 use Rattle.fields.specs.declared.Cursor.{Cursor}
 use Rattle.runfile.proofs.Back.{slots}
 use Rattle.runfile.proofs.Given.{FieldsFit, clause-fields-fit}
-use Rattle.runfile.specs.File.{count, argument, atom, classChecks, clause, clauseFields, constant, header, letters, literal, mark, second, stepCount, version, within}
-use Rattle.runfile.specs.Readers.{times}
+use Rattle.runfile.specs.File.{Header, count, argument, atom, classChecks, clause, clauseFields, constant, fromClauses, header, letters, literal, mark, second, stepCount, version, within}
+use Rattle.runfile.specs.Readers.{Got, times}
 use Rattle.clauses.specs.declared.Clause as records
 use Rattle.fields.specs.declared.Cursor.the-variants as C
 
@@ -76,24 +76,39 @@ module _ (s : List ℕ) where
           (leads-then _ (leads c₃ c₄ az (times n (atom v)) e₄)
           (leads-give (λ l. record { variables = v; atoms = az; literals = l }) (leads c₄ c₅ ls (times m (literal arities v)) e₅)))))
 
-  pub header-parts : (c₀ c₁ c₂ c₃ c₄ c₅ c₆ c₇ c₈ : Cursor) (k n : ℕ) (arities : List ℕ) (m : ℕ) (cs : List Clause) (t : ℕ)
+  -- From what stands before the clauses, the clauses and the number of steps make the header.
+  pub front-parts : (c₀ c₁ c₂ c₃ c₄ c₅ c₆ : Cursor) (k n : ℕ) (arities : List ℕ) (m : ℕ)
       → viewed c₁ letters ≡ after c₀ (mark s) → viewed c₂ 1 ≡ after c₁ (version s) → viewed c₃ k ≡ after c₂ (count mostConstants s)
-      → viewed c₄ n ≡ after c₃ (count mostPredicates s) → viewed c₅ arities ≡ after c₄ (times n (count mostArguments) s)
-      → viewed c₆ m ≡ after c₅ (count mostInput s) → viewed c₇ cs ≡ after c₆ (times m (clause arities) s) → viewed c₈ t ≡ after c₇ (stepCount s)
-      → viewed c₈ (record { constants = k; arities = arities; input = cs; count = t }) ≡ after c₀ (header s)
+      → viewed c₄ n ≡ after c₃ (count mostPredicates s) → viewed c₅ arities ≡ after c₄ (times n (count mostArguments) s) → viewed c₆ m ≡ after c₅ (count mostInput s)
+      → after c₆ (fromClauses k arities m s) ≡ after c₀ (header s)
   unfolding header
-  header-parts c₀ c₁ c₂ c₃ c₄ c₅ c₆ c₇ c₈ k n arities m cs t e₁ e₂ e₃ e₄ e₅ e₆ e₇ e₈ = all .so
+  front-parts c₀ c₁ c₂ c₃ c₄ c₅ c₆ k n arities m e₁ e₂ e₃ e₄ e₅ e₆ =
+      sym whole ∙ all .so
     where
-      all : Leads c₀ c₈ (record { constants = k; arities = arities; input = cs; count = t }) s header
+      rest : Got Header
+      rest = after c₆ (fromClauses k arities m s)
+
+      blank : Header
+      blank = record { constants = k; arities = arities; input = []; count = 0 }
+
+      whole : viewed (reached rest) (given blank rest) ≡ rest
+      whole = told-view (record { cursor = refl; value = refl })
+
+      all : Leads c₀ (reached rest) (given blank rest) s header
       all =
           leads-then _ (leads c₀ c₁ letters mark e₁)
           (leads-then _ (leads c₁ c₂ 1 version e₂)
           (leads-then _ (leads c₂ c₃ k (count mostConstants) e₃)
           (leads-then _ (leads c₃ c₄ n (count mostPredicates) e₄)
           (leads-then _ (leads c₄ c₅ arities (times n (count mostArguments)) e₅)
-          (leads-then _ (leads c₅ c₆ m (count mostInput) e₆)
-          (leads-then _ (leads c₆ c₇ cs (times m (clause arities)) e₇)
-          (leads-give (λ z. record { constants = k; arities = arities; input = cs; count = z }) (leads c₇ c₈ t stepCount e₈))))))))
+          (leads-then _ (leads c₅ c₆ m (count mostInput) e₆) (leads c₆ (reached rest) (given blank rest) (fromClauses k arities m) whole))))))
+
+  pub rest-parts : (k : ℕ) (arities : List ℕ) (m : ℕ) (c₀ c₁ c₂ : Cursor) (cs : List Clause) (t : ℕ) → viewed c₁ cs ≡ after c₀ (times m (clause arities) s) → viewed c₂ t ≡ after c₁ (stepCount s)
+      → viewed c₂ (record { constants = k; arities = arities; input = cs; count = t }) ≡ after c₀ (fromClauses k arities m s)
+  rest-parts k arities m c₀ c₁ c₂ cs t e₁ e₂ = all .so
+    where
+      all : Leads c₀ c₂ (record { constants = k; arities = arities; input = cs; count = t }) s (fromClauses k arities m)
+      all = leads-then _ (leads c₀ c₁ cs (times m (clause arities)) e₁) (leads-give (λ z. record { constants = k; arities = arities; input = cs; count = z }) (leads c₁ c₂ t stepCount e₂))
 
 -- ---- arities
 

@@ -1,18 +1,17 @@
 -- The records of predicates and of a header.
 use mathlib.Core.Path.{_≡_}
-use mathlib.Core.List.{List, [], map}
+use mathlib.Core.List.{List, []}
 use Prim.Native.Nat.{ℕ, _≤_}
 use lib.ListN.{length, take}
 use Rattle.basis.specs.Limits.{mostInput, mostPredicates}
 use Rattle.lists.specs.Arrays.{exactly}
-use Rattle.calculus.specs.Clauses.{noClause}
-use Rattle.clauses.specs.declared.Clause.{Clause}
-use Rattle.clauses.specs.Records.{clauseOf, packed}
+use Rattle.calculus.specs.Clauses.{Clause}
 use Rattle.runfile.specs.Readers.{Got, got, bad}
-use Rattle.runfile.specs.File.{Header}
-use Rattle.fields.specs.Views.{Filled}
+use Rattle.runfile.specs.File.{Header, fromClauses, header}
+use Rattle.fields.specs.Views.{Filled, after}
 use Rattle.fields.specs.declared.Cursor.the-variants as C
 use Rattle.header.specs.declared.Predicates.{Predicates}
+use Rattle.header.specs.declared.Front.{Front}
 use Rattle.header.specs.declared.HeaderRead.{HeaderRead}
 
 -- The arities of the predicates
@@ -24,9 +23,16 @@ pub record Held (ps : Predicates) : Type 0 where
   pub few : ps .count ≤ mostPredicates
   pub filled : Filled mostPredicates 0 (ps .arities) (ps .count)
 
--- A table of clauses whose first j are the records of what they say, the others blank
-abbrev pub Packed : List Clause → ℕ → Type 0
-Packed l j = l ≡ exactly mostInput (packed noClause) (map packed (map clauseOf (take j l)))
+-- What stands before the input clauses of the file s: the clauses and the number of steps, read on from there, make its header.
+pub record Fronts (s : List ℕ) (r : Front) : Type 0 where
+  pub few : r .input ≤ mostInput
+  pub held : Held (r .predicates)
+  pub rest : after (r .at) (fromClauses (r .constants) (arities (r .predicates)) (r .input) s) ≡ header s 0
+
+-- The input clauses of a header that is read; none where it is refused
+abbrev pub inputOf : Got Header → List Clause
+inputOf (got h next) = h .input
+inputOf (bad n p) = []
 
 -- The record of a header that is read; blank where it is refused
 abbrev pub packedHeader : Got Header → HeaderRead
@@ -34,7 +40,6 @@ packedHeader (got h next) = record {
   constants = h .constants;
   predicates = record { count = length (h .arities); arities = exactly mostPredicates 0 (h .arities) };
   input = length (h .input);
-  clauses = exactly mostInput (packed noClause) (map packed (h .input));
   steps = h .count;
   at = C.At next;
 }
@@ -42,7 +47,6 @@ packedHeader (bad n p) = record {
   constants = 0;
   predicates = record { count = 0; arities = exactly mostPredicates 0 [] };
   input = 0;
-  clauses = exactly mostInput (packed noClause) [];
   steps = 0;
   at = C.Refused n p;
 }

@@ -4,19 +4,21 @@ ghost use mathlib.Core.Path.{_≡_};
 ghost use Prim.Native.Nat.{_≤_};
 ghost use lib.ListN.{take};
 ghost use Rattle.basis.specs.Atoms.{noAtom};
-ghost use Rattle.basis.specs.Limits.{mostAtoms, mostLiterals, mostInput, mostPredicates, mostArguments};
-ghost use Rattle.calculus.specs.Clauses.{noLiteral};
+ghost use Rattle.basis.specs.Limits.{mostAtoms, mostClauses, mostLiterals, mostPredicates, mostArguments};
+ghost use Rattle.lists.specs.Arrays.{exactly};
+ghost use Rattle.calculus.specs.Clauses.{noClause, noLiteral};
 ghost use Rattle.calculus.specs.Class.{arityOf};
 ghost use Rattle.clauses.specs.Records.{clauseOf, packed};
 ghost use Rattle.runfile.specs.Readers.{bad, times};
 ghost use Rattle.runfile.specs.File.{count, atom, argument, literal, clauseFields, clause, header};
-ghost use Rattle.fields.specs.Views.{after, viewed, Filled};
-ghost use Rattle.header.specs.Records.{Held, Packed, arities, packedHeader};
+ghost use Rattle.fields.specs.Views.{after, reached, viewed, Filled};
+ghost use Rattle.header.specs.Records.{Fronts, Held, arities, inputOf, packedHeader};
 use admission::admit_clause;
 use basis::Atom;
 use basis::Literal;
 use basis::MOST_ARGUMENTS;
 use basis::MOST_ATOMS;
+use basis::MOST_CLAUSES;
 use basis::MOST_CONSTANTS;
 use basis::MOST_INPUT;
 use basis::MOST_LITERALS;
@@ -73,17 +75,19 @@ pub struct ClauseRead {
     pub at: Cursor,
 }
 
-pub struct ClausesRead {
-    pub clauses: [Clause; MOST_INPUT],
-    pub at: Cursor,
+// What stands before the input clauses, their number included, and the cursor there
+struct Front {
+    constants: u8,
+    predicates: Predicates,
+    input: u8,
+    at: Cursor,
 }
 
-// What stands before the first step, and the cursor there; blank where the file is refused before.
+// What stands before the first step but the clauses themselves, and the cursor there; blank where the file is refused before.
 pub struct HeaderRead {
     pub constants: u8,
     pub predicates: Predicates,
     pub input: u8,
-    pub clauses: [Clause; MOST_INPUT],
     pub steps: u32,
     pub at: Cursor,
 }
@@ -266,27 +270,20 @@ fn clause_at(s: &[u8], at: Cursor, ps: Predicates) -> ClauseRead
     }
 }
 
-fn clauses_at(s: &[u8], at: Cursor, n: u8, ps: Predicates) -> ClausesRead
-    requires { ⌜ (n ≤ mostInput) × Held ps ⌝ }
-    ensures { λ r. ⌜ (viewed (r .at) (map clauseOf (take n (r .clauses))) ≡ after at (times n (clause (arities ps)) (now (s .entry)))) × Packed (r .clauses) n ⌝ }
+// Where n clauses end
+fn clauses_end(s: &[u8], at: Cursor, n: u8, ps: Predicates) -> Cursor
+    requires { ⌜ Held ps ⌝ }
+    ensures { λ r. ⌜ r ≡ reached (after at (times n (clause (arities ps)) (now (s .entry)))) ⌝ }
 {
-    let none = no_clause();
-    let count = n as usize;
-    let mut clauses = [none; MOST_INPUT];
-    let mut end = at;
-    let mut j: usize = 0;
-    while j < count {
-        let read = clause_at(s, end, ps);
-        let c = read.clause;
+    let mut past = at;
+    let mut j: u8 = 0;
+    while j < n {
+        let read = clause_at(s, past, ps);
         let next = read.at;
-        clauses[j] = c;
-        end = next;
+        past = next;
         j += 1;
     }
-    ClausesRead {
-        clauses: clauses,
-        at: end,
-    }
+    past
 }
 
 // ---- the header
@@ -316,32 +313,9 @@ fn predicates_at(s: &[u8], at: Cursor, n: u8) -> PredicatesRead
     }
 }
 
-// The answer where the file is refused: blank
-pub fn no_header(number: u8, place: usize) -> HeaderRead
-    ensures { λ r. ⌜ r ≡ packedHeader (bad number place) ⌝ }
-{
-    let none = no_clause();
-    let clauses = [none; MOST_INPUT];
-    let slots = [0u8; MOST_PREDICATES];
-    HeaderRead {
-        constants: 0,
-        predicates: Predicates {
-            count: 0,
-            arities: slots,
-        },
-        input: 0,
-        clauses: clauses,
-        steps: 0,
-        at: Cursor::Refused {
-            number: number,
-            place: place,
-        },
-    }
-}
-
-// What stands before the first step, and the cursor there
-pub fn read_header(s: &[u8]) -> HeaderRead
-    ensures { λ r. ⌜ r ≡ packedHeader (header (now (s .entry)) 0) ⌝ }
+// What stands before the input clauses, from the file's first byte on
+fn front_at(s: &[u8]) -> Front
+    ensures { λ r. ⌜ Fronts (now (s .entry)) r ⌝ }
 {
     let start = Cursor::At { place: 0 };
     let past_mark = mark_at(s, start);
@@ -355,20 +329,80 @@ pub fn read_header(s: &[u8]) -> HeaderRead
     let predicates = ps.predicates;
     let m = count_at(s, past_ps, MOST_INPUT);
     let past_m = m.at;
-    let cs = clauses_at(s, past_m, m.value, predicates);
-    let past_cs = cs.at;
-    let clauses = cs.clauses;
-    let t = step_count_at(s, past_cs);
+    Front {
+        constants: constants.value,
+        predicates: predicates,
+        input: m.value,
+        at: past_m,
+    }
+}
+
+// The answer where the file is refused: blank
+pub fn no_header(number: u8, place: usize) -> HeaderRead
+    ensures { λ r. ⌜ r ≡ packedHeader (bad number place) ⌝ }
+{
+    let slots = [0u8; MOST_PREDICATES];
+    HeaderRead {
+        constants: 0,
+        predicates: Predicates {
+            count: 0,
+            arities: slots,
+        },
+        input: 0,
+        steps: 0,
+        at: Cursor::Refused {
+            number: number,
+            place: place,
+        },
+    }
+}
+
+// What stands before the first step, and the cursor there. The clauses are judged and not kept.
+pub fn read_header(s: &[u8]) -> HeaderRead
+    ensures { λ r. ⌜ r ≡ packedHeader (header (now (s .entry)) 0) ⌝ }
+{
+    let front = front_at(s);
+    let begin = front.at;
+    let predicates = front.predicates;
+    let past = clauses_end(s, begin, front.input, predicates);
+    let t = step_count_at(s, past);
     let end = t.at;
     match end {
         Cursor::At { place } => HeaderRead {
-            constants: constants.value,
+            constants: front.constants,
             predicates: predicates,
-            input: m.value,
-            clauses: clauses,
+            input: front.input,
             steps: t.value,
             at: Cursor::At { place: place },
         },
         Cursor::Refused { number, place } => no_header(number, place),
     }
+}
+
+// The input clauses in the table that has room for the learned ones; blank where the file is refused before the first step.
+pub fn read_clauses(s: &[u8]) -> [Clause; MOST_CLAUSES]
+    ensures { λ r. ⌜ r ≡ exactly mostClauses (packed noClause) (map packed (inputOf (header (now (s .entry)) 0))) ⌝ }
+{
+    let front = front_at(s);
+    let begin = front.at;
+    let predicates = front.predicates;
+    let count = front.input as usize;
+    let none = no_clause();
+    let mut clauses = [none; MOST_CLAUSES];
+    let mut past = begin;
+    let mut j: usize = 0;
+    while j < count {
+        let read = clause_at(s, past, predicates);
+        let c = read.clause;
+        let next = read.at;
+        clauses[j] = c;
+        past = next;
+        j += 1;
+    }
+    let t = step_count_at(s, past);
+    let end = t.at;
+    if let Cursor::Refused { number, place } = end {
+        return [none; MOST_CLAUSES];
+    }
+    clauses
 }

@@ -6,6 +6,7 @@ use mathlib.Core.Option.{Option, none, some}
 use Prim.Native.Nat.{ℕ, suc, _+_, _≤_}
 use native.Mathlib.Omega.{arith}
 use lib.ListN.{length, length-append, length-map, take}
+use Rattle.basis.specs.Limits.{mostClauses}
 use Rattle.lists.proofs.Arrays.{take-exactly}
 use Rattle.lists.proofs.Members.{map-same}
 use Rattle.calculus.specs.Class.{Limited}
@@ -22,7 +23,7 @@ use Rattle.rules.specs.Answers.{RunOf}
 use Rattle.rules.specs.declared.Run.{Run}
 use Rattle.state.proofs.Table.{run-of, table-is}
 use Rattle.state.specs.States as states
-use Rattle.state.specs.States.{mostClauses, packedTable}
+use Rattle.state.specs.States.{packedTable}
 use Rattle.state.specs.declared.State as whole
 use Rattle.inspection.specs.StateText.{inTurn, entryLine, clauseLine, firstLine, conflictLine, stateText}
 use Rattle.inspection.specs.Writing.{Kept, Recorded, ShownOnce, Shows, clauseLineOf, conflictSaid, entryLineOf, mostState}

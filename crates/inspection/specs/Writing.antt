@@ -4,7 +4,7 @@ use mathlib.Core.Bool.{Bool, true, false}
 use mathlib.Core.List.{List}
 use mathlib.Core.Option.{Option, none, some}
 use Prim.Native.Nat.{ℕ, _+_, _*_, _≤_}
-use Rattle.basis.specs.Limits.{mostVariables, mostAtoms, mostLiterals, mostArguments, mostEntries}
+use Rattle.basis.specs.Limits.{mostVariables, mostAtoms, mostLiterals, mostArguments, mostEntries, mostClauses}
 use Rattle.calculus.specs.Clauses as calculus
 use Rattle.calculus.specs.States.{State, clauses}
 use Rattle.clauses.specs.Records.{clauseOf, instancedOf}
@@ -14,7 +14,7 @@ use Rattle.trail.specs.Entries.{entryOf}
 use Rattle.trail.specs.declared.Entry.{Entry}
 use Rattle.rules.specs.Answers.{RunOf}
 use Rattle.rules.specs.declared.Run.{Run}
-use Rattle.state.specs.States.{mostClauses, packedTable}
+use Rattle.state.specs.States.{packedTable}
 use Rattle.text.specs.Text.{Wrote}
 use Rattle.inspection.specs.StateText.{entryLine, clauseLine, stateText}
 

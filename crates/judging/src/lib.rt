@@ -8,22 +8,28 @@ ghost use Rattle.steps.specs.Records.{fileAnswer};
 ghost use Rattle.listing.specs.Lines.{mostLine};
 ghost use Rattle.judging.specs.Judging.{Says, Shows};
 ghost use Rattle.judging.specs.Running.{Ran, placeOf};
+use basis::MOST_CLAUSES;
 use clauses::Clause;
 use fields::Cursor;
 use header::HeaderRead;
+use header::read_clauses;
 use inspection::put_state;
 use listing::put_accepted;
 use listing::put_bad;
 use listing::put_last;
 use listing::put_refused;
+use rules::Change;
 use rules::Run;
-use state::MOST_CLAUSES;
+use rules::Top;
+use rules::is_free;
+use rules::last_slot;
 use state::looked_at;
 use state::new_run;
 use state::slot_of;
-use state::with_room;
 use steps::read_file;
 use steps::step_at;
+use trail::empty_trail;
+use trail::no_entry;
 
 // What judging a file into a buffer answers: how many bytes were written, and the number and place that judging ended with; or that the buffer
 // is shorter than a text can be, and was left.
@@ -77,15 +83,16 @@ fn ended_with(run: Run, table: [Clause; MOST_CLAUSES], number: u8, place: u8, at
 }
 
 // Tries the steps of a file that is in order, a line for each. "It stops at a refused step." The table stays here: a step is handed the one
-// clause that it looks at, and only an accepted Backtrack writes it.
+// clause that it looks at, and only an accepted Backtrack writes it. What a rule changes that tests no atoms is written in place: such a rule
+// is handed the top of the run, and no trail.
 fn run_steps(file: &[u8], head: HeaderRead, first: usize, out: &mut [u8]) -> Ended
     requires { ⌜ (head ≡ fileAnswer (now file)) × (head .at ≡ C.At first) × (mostSteps * mostLine ≤ length (now out)) ⌝ }
     ensures { λ r. ⌜ Ran (now (file .entry)) (now (out .entry)) (now (out .exit)) r ⌝ }
 {
-    let clauses = head.clauses;
     let n = head.steps as usize;
     let mut run = new_run(head.constants, head.input);
-    let mut table = with_room(clauses);
+    let mut table = read_clauses(file);
+    let blank = empty_trail();
     let mut cursor = first;
     let mut at: usize = 0;
     let mut j: usize = 0;
@@ -93,23 +100,82 @@ fn run_steps(file: &[u8], head: HeaderRead, first: usize, out: &mut [u8]) -> End
         let read = step_at(file, cursor);
         let x = read.step;
         let past = read.at;
-        let k = slot_of(looked_at(run, x));
+        let slot = last_slot(run.length);
+        let last = run.trail[slot];
+        let k = slot_of(looked_at(last, x));
         let clause = table[k];
-        let a = run.step(clause, x);
-        let next = a.run;
-        if a.number != 0 {
-            at = put_refused(out, at, j + 1, x, a.number);
-            return ended_with(next, table, a.number, a.place, at);
+        let mut free = true;
+        if x.rule == 2 {
+            let trail = run.trail;
+            let instance = x.instance;
+            free = is_free(
+                trail,
+                run.length,
+                clause,
+                x.literal,
+                x.sign,
+                instance,
+                x.count,
+            );
         }
-        if x.rule == 7 {
-            let conflict = run.conflict;
-            let learned = conflict.clause;
-            let slot = run.input as usize + run.learned as usize;
-            table[slot] = learned;
+        let conflict = run.conflict;
+        let top = Top {
+            constants: run.constants,
+            input: run.input,
+            learned: run.learned,
+            level: run.level,
+            length: run.length,
+            stands: run.stands,
+            free: free,
+            last: last,
+            conflict: conflict,
+        };
+        let effect = top.effect(clause, x);
+        let change = effect.change;
+        match change {
+            Change::Whole => {
+                let a = run.step(clause, x);
+                if a.number != 0 {
+                    at = put_refused(out, at, j + 1, x, a.number);
+                    return ended_with(run, table, a.number, a.place, at);
+                }
+                if x.rule == 7 {
+                    let learned = conflict.clause;
+                    let next = run.input as usize + run.learned as usize;
+                    table[next] = learned;
+                }
+                run = a.run;
+            }
+            Change::Refused { number } => {
+                at = put_refused(out, at, j + 1, x, number);
+                return ended_with(run, table, number, 0, at);
+            }
+            Change::Decided => {
+                let entry = effect.entry;
+                let next = run.length as usize;
+                run.level += 1;
+                run.length += 1;
+                run.trail[next] = entry;
+            }
+            Change::Skipped { level } => {
+                let none = no_entry();
+                run.level = level;
+                run.length = slot as u8;
+                run.trail[slot] = none;
+            }
+            Change::Replaced => {
+                let replaced = effect.conflict;
+                run.conflict = replaced;
+            }
+            Change::Grown { constants } => {
+                run.constants = constants;
+                run.level = 0;
+                run.length = 0;
+                run.trail = blank;
+            }
         }
-        at = put_accepted(out, at, j + 1, x, next.length, next.level);
+        at = put_accepted(out, at, j + 1, x, run.length, run.level);
         cursor = place_of(past);
-        run = next;
         j += 1;
     }
     ended_with(run, table, 0, 0, at)

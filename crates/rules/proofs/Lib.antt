@@ -11,3 +11,4 @@ pub mod Propagating
 pub mod Conflicting
 pub mod Backtracking
 pub mod Steps
+pub mod Effects

@@ -3,37 +3,40 @@ use mathlib.Core.Path.{_∙_, _≡_, ap, refl, subst, sym}
 use mathlib.Core.Logic.{_↔_, _⊎_, inl, inr}
 use mathlib.Core.List.{List, List·Memᴰ, List·Memᴰ·append-cases, [], _++_, _∷_}
 use mathlib.Core.Option.{Option}
-use mathlib.Core.Bool.{Bool, _&&_, cond, false, true}
-use Prim.Native.Nat.{_+_, _-_, _<_, _≤_, ℕ}
+use mathlib.Core.Bool.{Bool, _&&_, false, true}
+use Prim.Native.Nat.{_+_, _-_, _<_, _≤_, suc, ℕ}
 use native.Mathlib.Omega.{arith}
 use lib.Dec.{T, leb}
 use lib.ListN.{length, take}
 use lib.Seq.{length-take-le}
 use borrow.Author.Tests.{le-leb, lt-leb}
 use Rattle.basis.specs.Atoms.{Possible, Proper}
-use Rattle.basis.specs.Limits.{mostConstants, mostLiterals, mostVariables}
+use Rattle.basis.specs.Limits.{mostConstants, mostEntries, mostLiterals, mostVariables}
 use Rattle.basis.specs.Numbers.{whole}
-use Rattle.basis.specs.Refusals.{aboveLimit, alreadyDefined, noRoom, noSuch, outOfRange, wrongMoment}
+use Rattle.basis.specs.Refusals.{aboveLimit, accepted, alreadyDefined, noRoom, noSuch, outOfRange, wrongMoment}
 use Rattle.basis.specs.declared.Atom.{Atom}
 use Rattle.basis.specs.declared.Literal.{Literal}
 use Rattle.lists.proofs.Arrays.{exactly-length, exactly-take, take-exactly}
 use Rattle.lists.specs.Arrays.{exactly}
-use Rattle.rules.specs.Answers.{RunOf, Told}
-use Rattle.rules.specs.Records.{withTrail}
+use Rattle.rules.specs.Answers.{Answered, Kept, RunOf, Told}
+use Rattle.rules.specs.Effects.{Done, changing, isFree, made, topOf}
+use Rattle.rules.specs.declared.Change.the-variants.{Decided, Refused}
 use Rattle.rules.specs.declared.Run.{Run}
+use Rattle.rules.specs.declared.Top.{Top}
 use Rattle.calculus.specs.Checks.{_or_, between, firstRefusal}
 use Rattle.calculus.specs.Clauses.{groundAtoms, noLiteral}
 use Rattle.calculus.specs.Rules.{clauseExists, decidedLiteral, instanceFits, isOne, literalExists, next}
 use Rattle.calculus.specs.States.{Decide, State, Step, clauseAt, clauses, conflictOf, stands}
-use Rattle.calculus.specs.Trails.{Trail, atomsOf, decided, foreground, undefined}
+use Rattle.calculus.specs.Trails.{atomsOf, decided, foreground, undefined}
 use Rattle.clauses.specs.Records.{clauseOf, packed, packedInstanced}
 use Rattle.clauses.specs.declared.Clause.{Clause}
 use Rattle.rules.proofs.Reached.{clause-proper, fine-atoms}
-use Rattle.rules.proofs.Runs.{clause-says, clauses-is, conflict-is, constants-is, fine, input-is, learned-is, level-is, no-conflict, packed-as, standing, stands-is, stored}
-use Rattle.rules.proofs.Told.{accepted-as, nothing-asked, refused}
-use Rattle.trail.specs.Answers.{Grew, Listed, Testable}
-use Rattle.trail.specs.Entries.{Stored, trailOf}
-use Rattle.trail.specs.declared.Grown.{Grown}
+use Rattle.rules.proofs.Runs.{clause-says, clauses-is, conflict-is, constants-is, fine, input-is, kept-small, learned-is, level-is, no-conflict, packed-as, stands-shown, stored}
+use Rattle.rules.proofs.Told.{accepted-as, nothing-asked, refusing, unchanged}
+use Rattle.trail.proofs.Stored.{stored-length, stored-pushed}
+use Rattle.trail.specs.Answers.{Listed, Testable}
+use Rattle.trail.specs.Entries.{Recorded}
+use Rattle.trail.specs.declared.Entry.{Entry}
 use Rattle.trail.specs.declared.Instances.{Instances}
 use Rattle.calculus.specs.Clauses as calculus
 
@@ -111,12 +114,15 @@ none-refused false b e = absurd (omega arith)
 
 -- ---- Decide
 
-module _ {r : Run} {s : State} (R : RunOf r s) (k : Clause) (c l g : ℕ) (count : ℕ) (ι : List ℕ) (long : length ι ≡ 12) where
+module _ (r : Run) (k : Clause) (c l g : ℕ) (count : ℕ) (ι : List ℕ) (long : length ι ≡ 12) {t : Top} (q : t ≡ topOf r (isFree (r .trail) (r .length) k l g (take count ι))) where
   abbrev x : Step
   x = Decide c l g (exactly count 0 ι)
 
-  pub decide-long : mostVariables < count → Told s x (record { run = r; number = aboveLimit; place = 0 })
-  decide-long h = refused R x aboveLimit tt tt (λ b. rw (instance-long count ι h))
+  abbrev Refuses : ℕ → Type 0
+  Refuses n = Done r k 2 x (changing t (Refused n))
+
+  pub decide-long : mostVariables < count → Refuses aboveLimit
+  decide-long h = refusing r k q 2 x aboveLimit tt tt (λ s R looks a. rw (instance-long count ι h))
 
   module _ (h₁ : count ≤ mostVariables) where
     abbrev τ : List ℕ
@@ -128,68 +134,82 @@ module _ {r : Run} {s : State} (R : RunOf r s) (k : Clause) (c l g : ℕ) (count
     short : leb (length τ) mostVariables ≡ true
     short = instance-short count ι (omega arith) h₁
 
-    pub decide-sign : 1 < g → Told s x (record { run = r; number = outOfRange; place = 0 })
-    decide-sign h = refused R x outOfRange tt tt (λ b. simp (same, short, lt-leb g 1 h))
+    pub decide-sign : 1 < g → Refuses outOfRange
+    decide-sign h = refusing r k q 2 x outOfRange tt tt (λ s R looks a. simp (same, short, lt-leb g 1 h))
 
     module _ (h₂ : g ≤ 1) where
       sign : leb g 1 ≡ true
       sign = le-leb g 1 h₂
 
-      pub decide-standing : r .stands ≡ true → Told s x (record { run = r; number = wrongMoment; place = 0 })
-      decide-standing h = refused R x wrongMoment tt tt (λ b. simp (same, short, sign, standing R h))
+      pub decide-standing : t .stands ≡ true → Refuses wrongMoment
+      decide-standing h = refusing r k q 2 x wrongMoment tt tt (λ s R looks a. simp (same, short, sign, stands-shown R q h))
 
-      module _ (h₃ : r .stands ≡ false) (looks : T (clauseExists (clauses s) c) → k ≡ packed (clauseAt (clauses s) c)) where
-        free : stands (s .conflict) ≡ false
-        free = sym (stands-is R) ∙ h₃
-
-        abbrev C : calculus.Clause
-        C = clauseAt (clauses s) c
-
+      module _ (h₃ : t .stands ≡ false) where
         -- What the code asks of the numbers
-        abbrev Named : Bool
-        Named = between 1 (r .input + r .learned) c && (literalExists (clauseOf k) l && instanceFits (r .constants) (clauseOf k) τ)
+        abbrev Named : Top → Bool
+        Named u = between 1 (u .input + u .learned) c && (literalExists (clauseOf k) l && instanceFits (u .constants) (clauseOf k) τ)
 
-        named : {b : Bool} → Named ≡ b → (clauseExists (clauses s) c && (literalExists C l && instanceFits (s .constants) C τ)) ≡ b
-        named h = sym (asked-is R k c looks (λ n D. literalExists D l && instanceFits n D τ)) ∙ h
+        -- .. at a state, handed the clause that is named there
+        module _ {s : State} (R : RunOf r s) (looks : T (clauseExists (clauses s) c) → k ≡ packed (clauseAt (clauses s) c)) where
+          abbrev C : calculus.Clause
+          C = clauseAt (clauses s) c
 
-        decide-no-such : Named ≡ false → Told s x (record { run = r; number = noSuch; place = 0 })
-        decide-no-such h = refused R x noSuch tt tt (λ b. simp (same, short, sign, free, named h))
+          free : stands (s .conflict) ≡ false
+          free = stands-shown R q h₃
 
-        module _ (h₄ : Named ≡ true) (m : Literal) (m-is : m ≡ decidedLiteral (clauseOf k) (l - 1) (isOne g) τ) where
-          there : between 1 (r .input + r .learned) c ≡ true
-          there = and-true (between 1 (r .input + r .learned) c) (literalExists (clauseOf k) l && instanceFits (r .constants) (clauseOf k) τ) h₄ .0
+          named : {a : Bool} → Named t ≡ a → (clauseExists (clauses s) c && (literalExists C l && instanceFits (s .constants) C τ)) ≡ a
+          named h = sym (asked-is R k c looks (λ n D. literalExists D l && instanceFits n D τ)) ∙ sym (ap Named q) ∙ h
 
-          literal-is : m ≡ decidedLiteral C (l - 1) (isOne g) τ
-          literal-is = m-is ∙ ap (λ (D : calculus.Clause). decidedLiteral D (l - 1) (isOne g) τ) (named-says R k c looks there)
+          module _ (h₄ : Named t ≡ true) where
+            there : between 1 (r .input + r .learned) c ≡ true
+            there = and-true (between 1 (r .input + r .learned) c) (literalExists (clauseOf k) l && instanceFits (r .constants) (clauseOf k) τ) (sym (ap Named q) ∙ h₄) .0
 
-          open-yet : {b : Bool} → undefined (trailOf (r .trail) (r .length)) m ≡ b → undefined (s .trail) (decidedLiteral C (l - 1) (isOne g) τ) ≡ b
-          open-yet {b} h = subst (λ (q : Literal). undefined (s .trail) q ≡ b) literal-is (subst (λ (t : Trail). undefined t m ≡ b) (stored R .says) h)
+            literal-is : decidedLiteral (clauseOf k) (l - 1) (isOne g) τ ≡ decidedLiteral C (l - 1) (isOne g) τ
+            literal-is = ap (λ (D : calculus.Clause). decidedLiteral D (l - 1) (isOne g) τ) (named-says R k c looks there)
 
-          decide-defined : undefined (trailOf (r .trail) (r .length)) m ≡ false → Told s x (record { run = r; number = alreadyDefined; place = 0 })
-          decide-defined h = refused R x alreadyDefined tt tt (λ b. simp (same, short, sign, free, named h₄, open-yet h))
+            open-yet : {a : Bool} → t .free ≡ a → undefined (s .trail) (decidedLiteral C (l - 1) (isOne g) τ) ≡ a
+            open-yet h = sym (λ i. undefined (stored R .says i) (literal-is i)) ∙ sym (ap (λ (u : Top). u .free) q) ∙ h
 
-          module _ (h₅ : undefined (trailOf (r .trail) (r .length)) m ≡ true) (w : Grown) (grew : Grew w (foreground m (decided c l (isOne g) τ) ∷ trailOf (r .trail) (r .length))) where
-            abbrev t′ : Trail
-            t′ = foreground (decidedLiteral C (l - 1) (isOne g) τ) (decided c l (isOne g) τ) ∷ s .trail
+            grown-length : suc (length (s .trail)) ≡ t .length + 1
+            grown-length = omega (arith, stored-length (stored R), ap (λ (u : Top). u .length) q)
 
-            grew-is : Grew w t′
-            grew-is = subst (λ (q : Literal). Grew w (foreground q (decided c l (isOne g) τ) ∷ s .trail)) literal-is (subst (λ (t : Trail). Grew w (foreground m (decided c l (isOne g) τ) ∷ t)) (stored R .says) grew)
+        decide-no-such : Named t ≡ false → Refuses noSuch
+        decide-no-such h = refusing r k q 2 x noSuch tt tt (λ s R looks a. simp (same, short, sign, free R looks, named R looks h))
 
-            pub decide-no-room : w .fits ≡ false → Told s x (record { run = r; number = noRoom; place = 0 })
-            decide-no-room h = refused R x noRoom tt tt (λ b. simp (same, short, sign, free, named h₄, open-yet h₅, sym (grew-is .fits) ∙ h))
+        decide-defined : Named t ≡ true → t .free ≡ false → Refuses alreadyDefined
+        decide-defined h₄ h = refusing r k q 2 x alreadyDefined tt tt (λ s R looks a. simp (same, short, sign, free R looks, named R looks h₄, open-yet R looks h₄ h))
 
-            pub decide-accepted : w .fits ≡ true
-                → Told s x (record { run = withTrail r w (r .level + 1); number = 0; place = 0 })
-            decide-accepted h = subst (λ (ρ : List ℕ). Told s (Decide c l g ρ) (record { run = withTrail r w (r .level + 1); number = 0; place = 0 })) (sym same)
-                (accepted-as R (Decide c l g τ) true (nothing-asked s (Decide c l g τ) refl)
-                (simp (short, sign, free, named h₄, open-yet h₅, sym (grew-is .fits) ∙ h) (tt, (tt, (tt, (tt, (tt, (tt, tt)))))))
-                _ (packed-as (next s (Decide c l g τ)) (constants-is R) (input-is R) (learned-is R) (omega (arith, level-is R)) h₃
-                (subst (λ (b : Bool). Stored (w .trail) (w .length) (cond b t′ [])) h (grew-is .holds))
-                (conflict-is R ∙ ap (λ (q : Option calculus.Instanced). packedInstanced (conflictOf q)) (no-conflict (s .conflict) free))))
+        unnamed : (a b : Bool) → Named t ≡ a → t .free ≡ b → (n : ℕ) → n ≡ firstRefusal (a or noSuch ∷ b or alreadyDefined ∷ []) → ¬ (n ≡ 0) → Refuses n
+        unnamed false b a-is b-is n n-is h = subst Refuses (sym n-is) (decide-no-such a-is)
+        unnamed true false a-is b-is n n-is h = subst Refuses (sym n-is) (decide-defined a-is b-is)
+        unnamed true true a-is b-is n n-is h = absurd (h n-is)
 
-        -- 10 or 11, whichever is first
-        pub decide-unnamed : (m : Literal) → m ≡ decidedLiteral (clauseOf k) (l - 1) (isOne g) τ → (a b : Bool) → a ≡ Named → b ≡ undefined (trailOf (r .trail) (r .length)) m
-            → (n : ℕ) → n ≡ firstRefusal (a or noSuch ∷ b or alreadyDefined ∷ []) → ¬ (n ≡ 0) → Told s x (record { run = r; number = n; place = 0 })
-        decide-unnamed m m-is false b a-is b-is n n-is h = subst (λ (q : ℕ). Told s x (record { run = r; number = q; place = 0 })) (sym n-is) (decide-no-such (sym a-is))
-        decide-unnamed m m-is true false a-is b-is n n-is h = subst (λ (q : ℕ). Told s x (record { run = r; number = q; place = 0 })) (sym n-is) (decide-defined (sym a-is) m m-is (sym b-is))
-        decide-unnamed m m-is true true a-is b-is n n-is h = absurd (h n-is)
+        module _ (a : Bool) (a-is : a ≡ Named t) (n : ℕ) (n-is : n ≡ firstRefusal (a or noSuch ∷ t .free or alreadyDefined ∷ [])) where
+          -- 10 or 11, whichever is first
+          pub decide-unnamed : ¬ (n ≡ 0) → Refuses n
+          decide-unnamed h = unnamed a (t .free) (sym a-is) refl n n-is h
+
+          module _ (z : n ≡ 0) where
+            is-named : Named t ≡ true
+            is-named = sym a-is ∙ none-refused a (t .free) (sym n-is ∙ z) .0
+
+            is-open : t .free ≡ true
+            is-open = none-refused a (t .free) (sym n-is ∙ z) .1
+
+            pub decide-no-room : mostEntries ≤ t .length → Refuses noRoom
+            decide-no-room h = refusing r k q 2 x noRoom tt tt (λ s R looks a. simp (same, short, sign, free R looks, named R looks is-named, open-yet R looks is-named is-open, lt-leb (suc (length (s .trail))) mostEntries (omega (arith, grown-length R looks is-named))))
+
+            pub decide-accepted : t .length < mostEntries → Kept r → (m : Literal) → m ≡ decidedLiteral (clauseOf k) (l - 1) (isOne g) τ → (e : Entry) → Recorded e (foreground m (decided c l (isOne g) τ))
+                → Done r k 2 x (record { change = Decided; entry = e; conflict = t .conflict })
+            decide-accepted h K m m-is e E = record { by = tt; fits = (room, omega (arith, room, kept-small K .few-decisions)); idle = unchanged r q .1; answers = λ _. answered }
+              where
+                room : r .length < mostEntries
+                room = rw q at h
+
+                answered : Answered r k x (record { run = made r Decided e (r .conflict); number = accepted; place = 0 })
+                answered s R looks = subst (λ (ρ : List ℕ). Told s (Decide c l g ρ) (record { run = made r Decided e (r .conflict); number = accepted; place = 0 })) (sym same)
+                    (accepted-as R (Decide c l g τ) true (nothing-asked s (Decide c l g τ) refl)
+                    (simp (short, sign, free R looks, named R looks is-named, open-yet R looks is-named is-open, le-leb (suc (length (s .trail))) mostEntries (omega (arith, grown-length R looks is-named))) (tt, (tt, (tt, (tt, (tt, (tt, tt)))))))
+                    _ (packed-as (next s (Decide c l g τ)) (constants-is R) (input-is R) (learned-is R) (omega (arith, level-is R)) (rw q at h₃)
+                    (stored-pushed (stored R) room (subst (λ (p : Literal). Recorded e (foreground p (decided c l (isOne g) τ))) (m-is ∙ literal-is R looks is-named) E))
+                    (conflict-is R ∙ ap (λ (o : Option calculus.Instanced). packedInstanced (conflictOf o)) (no-conflict (s .conflict) (free R looks)))))

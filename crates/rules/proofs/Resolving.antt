@@ -12,9 +12,12 @@ use Rattle.basis.specs.Limits.{mostLiterals}
 use Rattle.basis.specs.Refusals.{noEntry, noRoom, noSuch, wrongLiteral, wrongMoment}
 use Rattle.basis.specs.declared.Literal.{Literal}
 use Rattle.lists.proofs.Tests.{and-l, and-r}
-use Rattle.rules.specs.Answers.{IsLast, RunOf, Told}
+use Rattle.rules.specs.Effects.{Done, changing, topOf}
+use Rattle.rules.specs.Answers.{IsLast, RunOf}
 use Rattle.rules.specs.Records.{isPropagated, packedRun}
+use Rattle.rules.specs.declared.Change.the-variants.{Refused, Replaced}
 use Rattle.rules.specs.declared.Run.{Run}
+use Rattle.rules.specs.declared.Top.{Top}
 use Rattle.calculus.proofs.Class.{limited-of, placed}
 use Rattle.calculus.proofs.Derived.{reason-sized}
 use Rattle.calculus.proofs.Instances.{Sized}
@@ -34,8 +37,8 @@ use Rattle.merging.proofs.Whole.{merge-limits}
 use Rattle.merging.specs.Results.{fitted, reasonOf, resolved, tooLarge}
 use Rattle.merging.specs.declared.Merged.{Merged}
 use Rattle.rules.proofs.Reached.{AllFine, Fine}
-use Rattle.rules.proofs.Runs.{conflict-is, conflict-says, fine, fine-conflict, lastOf, standing, stands-is, trail-last, trail-none, with-conflict, within}
-use Rattle.rules.proofs.Told.{accepted-as, nothing-asked, refused}
+use Rattle.rules.proofs.Runs.{conflict-is, conflict-shown, fine, fine-conflict, last-shown, none-shown, stands-shown, with-conflict, within}
+use Rattle.rules.proofs.Told.{accepted-as, nothing-asked, refusing, unchanged}
 use Rattle.trail.specs.Entries.{entryAs, entryOf, trailOf}
 use Rattle.trail.specs.declared.Kind.{Kind}
 use Rattle.merging.specs.declared.Reason as reasons
@@ -99,97 +102,105 @@ resolved-is : (N R : calculus.Instanced) (j i : ℕ) → Limited (N .clause) →
 unfolding resolved
 resolved-is N R j i l e k f = simp (packed-instanced-says N l e, packed-instanced-says R k f, within (N .clause) l, within (R .clause) k)
 
-module _ {r : Run} {s : State} (R : RunOf r s) (k : Clause) (l : ℕ) where
-  pub resolve-no-conflict : r .stands ≡ false → Told s (Resolve l) (record { run = r; number = wrongMoment; place = 0 })
-  resolve-no-conflict e = refused R (Resolve l) wrongMoment tt tt (λ b. rw (sym (stands-is R) ∙ e))
+module _ (r : Run) (k : Clause) {t : Top} {b : Bool} (q : t ≡ topOf r b) (l : ℕ) where
+  pub resolve-no-conflict : t .stands ≡ false → Done r k 4 (Resolve l) (changing t (Refused wrongMoment))
+  resolve-no-conflict e = refusing r k q 4 (Resolve l) wrongMoment tt tt (λ s R _ a. rw (stands-shown R q e))
 
-  module _ (e : r .stands ≡ true) where
-    abbrev N : calculus.Instanced
-    N = conflictOf (s .conflict)
+  abbrev E : entries.Entry
+  E = t .last
 
-    abbrev E : entries.Entry
-    E = lastOf r
+  abbrev τ : List ℕ
+  τ = take (E .count) (E .instance)
 
-    exists : {b : Bool} → literalExists (clauseOf (r .conflict .clause)) l ≡ b → literalExists (N .clause) l ≡ b
-    exists {b} h = subst (λ (n : calculus.Instanced). literalExists (n .clause) l ≡ b) (conflict-says R e) h
+  module _ (e : t .stands ≡ true) where
+    exists : {s : State} (R : RunOf r s) {a : Bool} → literalExists (clauseOf (t .conflict .clause)) l ≡ a → literalExists (conflictOf (s .conflict) .clause) l ≡ a
+    exists R {a} = subst (λ (n : calculus.Instanced). literalExists (n .clause) l ≡ a) (conflict-shown R q e)
 
-    pub resolve-no-such : literalExists (clauseOf (r .conflict .clause)) l ≡ false → Told s (Resolve l) (record { run = r; number = noSuch; place = 0 })
-    resolve-no-such h = refused R (Resolve l) noSuch tt tt (λ b. simp (standing R e, exists h))
+    pub resolve-no-such : literalExists (clauseOf (t .conflict .clause)) l ≡ false → Done r k 4 (Resolve l) (changing t (Refused noSuch))
+    resolve-no-such h = refusing r k q 4 (Resolve l) noSuch tt tt (λ s R _ a. simp (stands-shown R q e, exists R h))
 
-    module _ (h : literalExists (clauseOf (r .conflict .clause)) l ≡ true) where
-      pub resolve-no-entry : r .length < 1 → Told s (Resolve l) (record { run = r; number = noEntry; place = 0 })
-      resolve-no-entry f = refused R (Resolve l) noEntry tt tt (λ b. simp (standing R e, exists h, trail-none R f))
+    module _ (h : literalExists (clauseOf (t .conflict .clause)) l ≡ true) where
+      pub resolve-no-entry : t .length < 1 → Done r k 4 (Resolve l) (changing t (Refused noEntry))
+      resolve-no-entry f = refusing r k q 4 (Resolve l) noEntry tt tt (λ s R _ a. simp (stands-shown R q e, exists R h, none-shown R q f))
 
-      module _ (f : 1 ≤ r .length) where
-        last-is : {b : Bool} → isPropagated (E .kind) ≡ b → lastIsPropagated (s .trail) ≡ b
-        last-is p = ap lastIsPropagated (trail-last R f) ∙ last-propagated E (trailOf (r .trail) (r .length - 1)) ∙ p
+      module _ (f : 1 ≤ t .length) where
+        last-is : {s : State} (R : RunOf r s) {a : Bool} → isPropagated (E .kind) ≡ a → lastIsPropagated (s .trail) ≡ a
+        last-is R p = ap lastIsPropagated (last-shown R q f) ∙ last-propagated E (trailOf (r .trail) (r .length - 1)) ∙ p
 
-        pub resolve-not-propagated : isPropagated (E .kind) ≡ false → Told s (Resolve l) (record { run = r; number = noEntry; place = 0 })
-        resolve-not-propagated p = refused R (Resolve l) noEntry tt tt (λ b. simp (standing R e, exists h, last-is p))
+        pub resolve-not-propagated : isPropagated (E .kind) ≡ false → Done r k 4 (Resolve l) (changing t (Refused noEntry))
+        resolve-not-propagated p = refusing r k q 4 (Resolve l) noEntry tt tt (λ s R _ a. simp (stands-shown R q e, exists R h, last-is R p))
 
         module _ (p : isPropagated (E .kind) ≡ true) where
-          abbrev τ : List ℕ
-          τ = take (E .count) (E .instance)
-
           -- The last entry, taken apart
-          split : s .trail ≡ foreground (E .literal) (propagated (E .clause) (E .number) τ) ∷ trailOf (r .trail) (r .length - 1)
-          split = trail-last R f ∙ ap (λ (q : Kind). entryAs q E ∷ trailOf (r .trail) (r .length - 1)) (kind-propagated (E .kind) p)
+          split : {s : State} → RunOf r s → s .trail ≡ foreground (E .literal) (propagated (E .clause) (E .number) τ) ∷ trailOf (r .trail) (r .length - 1)
+          split R = last-shown R q f ∙ ap (λ (o : Kind). entryAs o E ∷ trailOf (r .trail) (r .length - 1)) (kind-propagated (E .kind) p)
 
-          same : {b : Bool} → sameLiteral (complement (E .literal)) (literalInstance (instancedOf (r .conflict)) l) ≡ b → sameLiteral (complement (lastLiteral (s .trail))) (literalInstance N l) ≡ b
-          same {b} q = ap (λ (t : Trail). sameLiteral (complement (lastLiteral t)) (literalInstance N l)) split ∙ subst (λ (n : calculus.Instanced). sameLiteral (complement (E .literal)) (literalInstance n l) ≡ b) (conflict-says R e) q
+          same : {s : State} (R : RunOf r s) {a : Bool} → sameLiteral (complement (E .literal)) (literalInstance (instancedOf (t .conflict)) l) ≡ a
+              → sameLiteral (complement (lastLiteral (s .trail))) (literalInstance (conflictOf (s .conflict)) l) ≡ a
+          same {s} R {a} z = ap (λ (o : Trail). sameLiteral (complement (lastLiteral o)) (literalInstance (conflictOf (s .conflict)) l)) (split R)
+              ∙ subst (λ (n : calculus.Instanced). sameLiteral (complement (E .literal)) (literalInstance n l) ≡ a) (conflict-shown R q e) z
 
-          pub resolve-not-complement : sameLiteral (complement (E .literal)) (literalInstance (instancedOf (r .conflict)) l) ≡ false → Told s (Resolve l) (record { run = r; number = wrongLiteral; place = 0 })
-          resolve-not-complement q = refused R (Resolve l) wrongLiteral tt tt (λ b. simp (standing R e, exists h, last-is p, same q))
+          pub resolve-not-complement : sameLiteral (complement (E .literal)) (literalInstance (instancedOf (t .conflict)) l) ≡ false → Done r k 4 (Resolve l) (changing t (Refused wrongLiteral))
+          resolve-not-complement z = refusing r k q 4 (Resolve l) wrongLiteral tt tt (λ s R _ a. simp (stands-shown R q e, exists R h, last-is R p, same R z))
 
-          module _ (q : sameLiteral (complement (E .literal)) (literalInstance (instancedOf (r .conflict)) l) ≡ true) (looks : IsLast (clauses s) (s .trail) k) where
-            abbrev C : calculus.Clause
-            C = clauseAt (clauses s) (E .clause)
+          module _ (d : sameLiteral (complement (E .literal)) (literalInstance (instancedOf (t .conflict)) l) ≡ true) where
+            -- .. at a state whose last entry's clause is handed over
+            module _ {s : State} (R : RunOf r s) (looks : IsLast (clauses s) (s .trail) k) where
+              abbrev N : calculus.Instanced
+              N = conflictOf (s .conflict)
 
-            entry-fine : Fine (clauses s) (s .constants) (foreground (E .literal) (propagated (E .clause) (E .number) τ))
-            entry-fine = subst (AllFine (clauses s) (s .constants)) split (fine R .entries) .0
+              abbrev C : calculus.Clause
+              C = clauseAt (clauses s) (E .clause)
 
-            handed : k ≡ packed C
-            handed = subst (λ (t : Trail). IsLast (clauses s) t k) split looks
+              entry-fine : Fine (clauses s) (s .constants) (foreground (E .literal) (propagated (E .clause) (E .number) τ))
+              entry-fine = subst (AllFine (clauses s) (s .constants)) (split R) (fine R .entries) .0
 
-            held : List·Memᴰ C (clauses s)
-            held = clause-held (clauses s) (E .clause) (entry-fine .1)
+              handed : k ≡ packed C
+              handed = subst (λ (o : Trail). IsLast (clauses s) o k) (split R) looks
 
-            sized : Sized (s .constants) (C .variables) τ
-            sized = instance-sized (s .constants) C τ (and-r (literalExists C (E .number)) (instanceFits (s .constants) C τ) (entry-fine .2))
+              held : List·Memᴰ C (clauses s)
+              held = clause-held (clauses s) (E .clause) (entry-fine .1)
 
-            own : E .number - 1 < length (C .literals)
-            own = number-below (E .number) (length (C .literals)) (and-l (literalExists C (E .number)) (instanceFits (s .constants) C τ) (entry-fine .2))
+              sized : Sized (s .constants) (C .variables) τ
+              sized = instance-sized (s .constants) C τ (and-r (literalExists C (E .number)) (instanceFits (s .constants) C τ) (entry-fine .2))
 
-            abbrev W : Reason
-            W = reason C (E .number - 1) τ
+              own : E .number - 1 < length (C .literals)
+              own = number-below (E .number) (length (C .literals)) (and-l (literalExists C (E .number)) (instanceFits (s .constants) C τ) (entry-fine .2))
 
-            reason-is : reasonOf k (E .number - 1) (E .instance) ≡ record { of = packedInstanced (W .of); own = W .own }
-            reason-is = ap (λ (c : Clause). reasonOf c (E .number - 1) (E .instance)) handed ∙ reasonOf-is C (E .number - 1) (E .instance) (fine R .limited C held)
-                ∙ ap (λ (t : List ℕ). record { of = packedInstanced (reason C (E .number - 1) t .of); own = reason C (E .number - 1) t .own }) (take-again (E .count) (C .variables) (E .instance) (sized .size))
+              abbrev W : Reason
+              W = reason C (E .number - 1) τ
 
-            W-sized : Sized (s .constants) (W .of .clause .variables) (W .of .instance)
-            W-sized = reason-sized C (E .number - 1) τ (s .constants) own (placed (fine R .class C held)) sized
+              reason-is : reasonOf k (E .number - 1) (E .instance) ≡ record { of = packedInstanced (W .of); own = W .own }
+              reason-is = ap (λ (c : Clause). reasonOf c (E .number - 1) (E .instance)) handed ∙ reasonOf-is C (E .number - 1) (E .instance) (fine R .limited C held)
+                  ∙ ap (λ (σ : List ℕ). record { of = packedInstanced (reason C (E .number - 1) σ .of); own = reason C (E .number - 1) σ .own }) (take-again (E .count) (C .variables) (E .instance) (sized .size))
 
-            abbrev M : calculus.Instanced
-            M = resolvent N (l - 1) (W .of) (W .own)
+              W-sized : Sized (s .constants) (W .of .clause .variables) (W .of .instance)
+              W-sized = reason-sized C (E .number - 1) τ (s .constants) own (placed (fine R .class C held)) sized
 
-            merged-is : {m : Merged} → m ≡ resolved (r .conflict) (l - 1) (reasonOf k (E .number - 1) (E .instance) .of) (reasonOf k (E .number - 1) (E .instance) .own) → m ≡ fitted M
-            merged-is g = g ∙ ap (λ (w : reasons.Reason). resolved (r .conflict) (l - 1) (w .of) (w .own)) reason-is
-                ∙ ap (λ (n : Instanced). resolved n (l - 1) (packedInstanced (W .of)) (W .own)) (conflict-is R)
-                ∙ resolved-is N (W .of) (l - 1) (W .own) (fine-conflict R e .limited) (fine-conflict R e .sized .size) (reason-limited C (E .number - 1) τ (fine R .limited C held)) (W-sized .size)
+              abbrev M : calculus.Instanced
+              M = resolvent N (l - 1) (W .of) (W .own)
 
-            next-is : next s (Resolve l) ≡ updated s (s .trail) (s .level) (some M)
-            next-is = ap (λ (t : Trail). updated s (s .trail) (s .level) (some (resolvent N (l - 1) (lastReason (clauses s) t .of) (lastReason (clauses s) t .own)))) split
+              merged-is : {m : Merged} → m ≡ resolved (t .conflict) (l - 1) (reasonOf k (E .number - 1) (E .instance) .of) (reasonOf k (E .number - 1) (E .instance) .own) → m ≡ fitted M
+              merged-is g = let n = fine-conflict R (rw q at e) in g ∙ ap (λ (w : reasons.Reason). resolved (t .conflict) (l - 1) (w .of) (w .own)) reason-is
+                  ∙ ap (λ (n : Instanced). resolved n (l - 1) (packedInstanced (W .of)) (W .own)) (unchanged r q .1 ∙ conflict-is R)
+                  ∙ resolved-is N (W .of) (l - 1) (W .own) (n .limited) (n .sized .size) (reason-limited C (E .number - 1) τ (fine R .limited C held)) (W-sized .size)
 
-            limits : {b : Bool} (m : Merged) → m ≡ fitted M → m .fits ≡ b → withinLimits (conflictOf (next s (Resolve l) .conflict) .clause) ≡ b
-            limits m g z = ap (λ (q : State). withinLimits (conflictOf (q .conflict) .clause)) next-is ∙ sym (fits-is M) ∙ ap (λ (w : Merged). w .fits) (sym g) ∙ z
+              next-is : next s (Resolve l) ≡ updated s (s .trail) (s .level) (some M)
+              next-is = ap (λ (o : Trail). updated s (s .trail) (s .level) (some (resolvent N (l - 1) (lastReason (clauses s) o .of) (lastReason (clauses s) o .own)))) (split R)
 
-            pub resolve-no-room : (m : Merged) → m ≡ resolved (r .conflict) (l - 1) (reasonOf k (E .number - 1) (E .instance) .of) (reasonOf k (E .number - 1) (E .instance) .own) → m .fits ≡ false
-                → Told s (Resolve l) (record { run = r; number = noRoom; place = 0 })
-            resolve-no-room m g z = refused R (Resolve l) noRoom tt tt (λ b. simp (standing R e, exists h, last-is p, same q, limits m (merged-is g) z))
+              limits : {a : Bool} (m : Merged) → m ≡ fitted M → m .fits ≡ a → withinLimits (conflictOf (next s (Resolve l) .conflict) .clause) ≡ a
+              limits m g z = ap (λ (o : State). withinLimits (conflictOf (o .conflict) .clause)) next-is ∙ sym (fits-is M) ∙ ap (λ (w : Merged). w .fits) (sym g) ∙ z
 
-            pub resolve-accepted : (m : Merged) → m ≡ resolved (r .conflict) (l - 1) (reasonOf k (E .number - 1) (E .instance) .of) (reasonOf k (E .number - 1) (E .instance) .own) → m .fits ≡ true
-                → Told s (Resolve l) (record { run = record { constants = r .constants; input = r .input; learned = r .learned; level = r .level; length = r .length; stands = r .stands; trail = r .trail; conflict = m .of }; number = 0; place = 0 })
-            resolve-accepted m g z = accepted-as R (Resolve l) true (nothing-asked s (Resolve l) refl)
-                (rw (standing R e) tt, (rw (exists h) tt, (rw (last-is p) tt, (rw (same q) tt, (rw (limits m (merged-is g) z) tt, tt)))))
-                _ (with-conflict R (m .of) M e (ap (λ (w : Merged). w .of) (merged-is g) ∙ fitted-of M (sym (fits-is M) ∙ ap (λ (w : Merged). w .fits) (sym (merged-is g)) ∙ z)) ∙ ap packedRun (sym next-is))
+            module _ (m : Merged) (g : m ≡ resolved (t .conflict) (l - 1) (reasonOf k (E .number - 1) (E .instance) .of) (reasonOf k (E .number - 1) (E .instance) .own)) where
+              pub resolve-no-room : m .fits ≡ false → Done r k 4 (Resolve l) (changing t (Refused noRoom))
+              resolve-no-room z = refusing r k q 4 (Resolve l) noRoom tt tt (λ s R looks a. simp (stands-shown R q e, exists R h, last-is R p, same R d, limits R looks m (merged-is R looks g) z))
+
+              pub resolve-accepted : m .fits ≡ true → Done r k 4 (Resolve l) (record { change = Replaced; entry = t .last; conflict = m .of })
+              resolve-accepted z = record {
+                by = tt;
+                fits = tt;
+                idle = unchanged r q .0;
+                answers = λ _ s R looks. let is = merged-is R looks g in accepted-as R (Resolve l) true (nothing-asked s (Resolve l) refl)
+                    (rw (stands-shown R q e) tt, (rw (exists R h) tt, (rw (last-is R p) tt, (rw (same R d) tt, (rw (limits R looks m is z) tt, tt)))))
+                    _ (with-conflict R (m .of) (M R looks) (rw q at e) (ap (λ (w : Merged). w .of) is ∙ fitted-of (M R looks) (sym (fits-is (M R looks)) ∙ ap (λ (w : Merged). w .fits) (sym is) ∙ z)) ∙ ap packedRun (sym (next-is R looks)));
+              }

@@ -2,7 +2,7 @@
 use mathlib.Core.Path.{_∙_, _≡_, ap, refl, subst, sym}
 use mathlib.Core.List.{List, [], _∷_}
 use mathlib.Core.Option.{Option, none, some}
-use mathlib.Core.Bool.{_&&_, false, true}
+use mathlib.Core.Bool.{Bool, _&&_, false, true}
 use Prim.Native.Nat.{_+_, _-_, _<_, _≤_, suc, zero, ℕ}
 use native.Mathlib.Omega.{arith}
 use lib.Dec.{T, leb, le→leb}
@@ -10,8 +10,10 @@ use lib.ListN.{getD, length, length-append}
 use Rattle.basis.specs.Limits.{mostAtoms, mostConstants, mostEntries, mostInput, mostLearned, mostLiterals, mostVariables}
 use Rattle.lists.proofs.Tests.{T→eq, and-i}
 use Rattle.rules.specs.Answers.{Kept, RunOf}
+use Rattle.rules.specs.Effects.{Seen, topOf}
 use Rattle.rules.specs.Records.{packedRun}
 use Rattle.rules.specs.declared.Run.{Run}
+use Rattle.rules.specs.declared.Top.{Top}
 use Rattle.calculus.proofs.Levels.{clause-held}
 use Rattle.calculus.specs.Class.{Limited, withinLimits}
 use Rattle.calculus.specs.Rules.{clauseExists}
@@ -118,26 +120,41 @@ kept-small {r} (s, R) = record {
 -- ---- the last entry
 
 -- What the array has last
-abbrev pub lastOf : Run → entries.Entry
-lastOf r = getD (r .trail) (r .length - 1) pastEnd
-
 split-last : (es : List entries.Entry) (n : ℕ) → 1 ≤ n → trailOf es n ≡ entryOf (getD es (n - 1) pastEnd) ∷ trailOf es (n - 1)
 split-last es zero h = absurd (omega arith)
 split-last es (suc n) h = let e : n ≡ suc n - 1 = omega arith in ap (λ (k : ℕ). entryOf (getD es k pastEnd) ∷ trailOf es k) e
 
 module _ {r : Run} {s : State} (R : RunOf r s) where
-  pub trail-last : 1 ≤ r .length → s .trail ≡ entryOf (lastOf r) ∷ trailOf (r .trail) (r .length - 1)
-  trail-last h = sym (stored R .says) ∙ split-last (r .trail) (r .length) h
-
-  pub trail-none : r .length < 1 → s .trail ≡ []
-  trail-none h = is-empty (s .trail) (omega (arith, stored-length (stored R)))
-    where
-      is-empty : (t : Trail) → length t ≤ 0 → t ≡ []
-      is-empty [] k = refl
-      is-empty (e ∷ t) k = absurd (omega arith)
-
   -- A state with another conflict
   pub with-conflict : (n : Instanced) (N : calculus.Instanced) → r .stands ≡ true → n ≡ packedInstanced N
       → _≡_ {A = Run} (record { constants = r .constants; input = r .input; learned = r .learned; level = r .level; length = r .length; stands = r .stands; trail = r .trail; conflict = n })
       (packedRun (updated s (s .trail) (s .level) (some N)))
   with-conflict n N e h = packed-as (updated s (s .trail) (s .level) (some N)) (constants-is R) (input-is R) (learned-is R) (level-is R) e (stored R) h
+
+-- ---- what the top of a run shows
+
+module _ {r : Run} {s : State} (R : RunOf r s) {t : Top} {b : Bool} (q : t ≡ topOf r b) where
+  pub constants-shown : t .constants ≡ s .constants
+  constants-shown = ap (λ (t : Top). t .constants) q ∙ constants-is R
+
+  pub stands-shown : {a : Bool} → t .stands ≡ a → stands (s .conflict) ≡ a
+  stands-shown e = sym (stands-is R) ∙ (rw q at e)
+
+  pub conflict-shown : t .stands ≡ true → instancedOf (t .conflict) ≡ conflictOf (s .conflict)
+  conflict-shown e = ap (λ (t : Top). instancedOf (t .conflict)) q ∙ conflict-says R (rw q at e)
+
+  pub last-shown : 1 ≤ t .length → s .trail ≡ entryOf (t .last) ∷ trailOf (r .trail) (r .length - 1)
+  last-shown h = sym (stored R .says) ∙ split-last (r .trail) (r .length) (rw q at h) ∙ ap (λ (t : Top). entryOf (t .last) ∷ trailOf (r .trail) (r .length - 1)) (sym q)
+
+  pub none-shown : t .length < 1 → s .trail ≡ []
+  none-shown h = is-empty (s .trail) (omega (arith, stored-length (stored R), rw q at h))
+    where
+      is-empty : (t : Trail) → length t ≤ 0 → t ≡ []
+      is-empty [] k = refl
+      is-empty (e ∷ t) k = absurd (omega arith)
+
+pub few-constants-shown : {t : Top} → Seen t → t .constants ≤ mostConstants
+few-constants-shown (r, b, (s, R), q) = omega (arith, constants-shown R q, fine R .few-constants)
+
+pub few-clauses-shown : {t : Top} → Seen t → (t .input ≤ mostInput) × (t .learned ≤ mostLearned)
+few-clauses-shown (r, b, K, q) = (omega (arith, kept-small K .few-input, ap (λ (t : Top). t .input) q), omega (arith, kept-small K .few-learned, ap (λ (t : Top). t .learned) q))

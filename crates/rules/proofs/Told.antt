@@ -9,11 +9,15 @@ use lib.Dec.{T, eqb}
 use Rattle.basis.specs.Atoms.{Possible}
 use Rattle.basis.specs.Numbers.{whole}
 use Rattle.basis.specs.Refusals.{accepted, notFalse}
-use Rattle.lists.proofs.Tests.{F→eq}
-use Rattle.rules.specs.Answers.{AdmittedReached, AnswerUnique, RunOf, StepsKeepReached, Told}
+use Rattle.lists.proofs.Tests.{F→eq, and-r}
+use Rattle.rules.specs.Answers.{AdmittedReached, AnswerUnique, Looks, RunOf, StepsKeepReached, Told}
 use Rattle.rules.specs.Records.{packedAnswer, packedRun}
+use Rattle.rules.specs.Effects.{Done, changing, lastOf, looksAtTrail, madeBy, topOf}
+use Rattle.rules.specs.declared.Change.the-variants.{Refused}
 use Rattle.rules.specs.declared.Run.{Run}
 use Rattle.rules.specs.declared.Stepped.{Stepped}
+use Rattle.rules.specs.declared.Top.{Top}
+use Rattle.clauses.specs.declared.Clause.{Clause}
 use Rattle.calculus.proofs.Answers.{AllOk, answer-unique, pass}
 use Rattle.calculus.proofs.Trails.{possible-none}
 use Rattle.calculus.specs.Checks.{firstRefusal}
@@ -56,6 +60,18 @@ module _ {r : Run} {s : State} (R : RunOf r s) (x : Step) where
 
   pub accepted-as : (b : Bool) → T b ↔ Possible whole (s .constants) (question s x) → AllOk (asks b s x) → (q : Run) → q ≡ packedRun (next s x) → Told s x (record { run = q; number = accepted; place = 0 })
   accepted-as b d checks q e = (answer b s x, record { possible = b; decides = d; is = refl }, rw (pass (asks b s x) checks) (ap (λ (q : Run). record { run = q; number = accepted; place = 0 }) e))
+
+-- ---- effects
+
+-- A top has the last entry and the conflict of its run.
+pub unchanged : (r : Run) {t : Top} {b : Bool} → t ≡ topOf r b → (t .last ≡ lastOf r) × (t .conflict ≡ r .conflict)
+unchanged r q = (ap (λ (t : Top). t .last) q, ap (λ (t : Top). t .conflict) q)
+
+-- A step of rule n, refused by m before any test
+pub refusing : (r : Run) (k : Clause) {t : Top} {b : Bool} → t ≡ topOf r b → (n : ℕ) (x : Step) (m : ℕ) → T (madeBy n (Refused m)) → T (not (eqb m notFalse))
+    → ((s : State) → RunOf r s → Looks s x k → (a : Bool) → firstRefusal (asks a s x) ≡ m) → Done r k n x (changing t (Refused m))
+refusing r k q n x m h f e =
+    record { by = h; fits = tt; idle = unchanged r q; answers = λ _ s R looks. refused R x m (and-r (not (looksAtTrail n)) (not (eqb m accepted)) h) f (e s R looks) }
 
 -- ---- what is taken for granted
 

@@ -1,3 +1,4 @@
 -- Run states and steps as the calculus's, and what each answer of a rule says.
 pub mod Records
 pub mod Answers
+pub mod Effects

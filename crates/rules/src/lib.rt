@@ -6,7 +6,7 @@ ghost use mathlib.Core.Bool.{_&&_, cond, not};
 ghost use Prim.Native.Nat.{_+_, _-_, _≤_, _<_};
 ghost use lib.Dec.{eqb};
 ghost use lib.ListN.{length, take};
-ghost use Rattle.basis.specs.Limits.{mostVariables, mostInput, mostLearned};
+ghost use Rattle.basis.specs.Limits.{mostVariables, mostInput, mostLearned, mostEntries};
 ghost use Rattle.basis.specs.Refusals as refusals;
 ghost use Rattle.basis.specs.Refusals.{alreadyDefined, noSuch, notFalse};
 ghost use Rattle.lists.specs.Arrays.{exactly};
@@ -22,6 +22,8 @@ ghost use Rattle.trail.specs.Entries.{entryOf};
 ghost use Rattle.merging.specs.Results.{resolved, reasonOf};
 ghost use Rattle.rules.specs.Records.{stepOf, isPropagated, withTrail, learnt};
 ghost use Rattle.rules.specs.Answers.{Kept, Handed, Answers, Answered};
+ghost use Rattle.rules.specs.Effects.{isFree, topOf, changing, after, Fits, Seen, Does, DoesWith, Decides, Effects};
+ghost use Rattle.rules.specs.declared.Change.the-variants.{Whole, Refused, Replaced};
 use basis::ABOVE_LIMIT;
 use basis::ALREADY_DEFINED;
 use basis::KEPT_NOT_POSSIBLE;
@@ -57,6 +59,7 @@ use trail::Kind;
 use trail::append_propagated;
 use trail::back_level;
 use trail::cut;
+use trail::decided_entry;
 use trail::empty_trail;
 use trail::first_constants;
 use trail::first_not_false;
@@ -67,7 +70,6 @@ use trail::literals_of;
 use trail::no_entry;
 use trail::other_instances;
 use trail::possible;
-use trail::push_decided;
 use trail::undefined;
 
 // "The tool takes a state and one proposed step": what a rule changes of the state. The clause table stands beside it.
@@ -87,6 +89,38 @@ pub struct Stepped {
     pub run: Run,
     pub number: u8,
     pub place: u8,
+}
+
+// A run without its trail, but for the last entry, the blank one where there is none: what the rules look at that test no atoms. `free` is
+// for Decide: whether the literal that it names is undefined.
+pub struct Top {
+    pub constants: u8,
+    pub input: u8,
+    pub learned: u8,
+    pub level: u8,
+    pub length: u8,
+    pub stands: bool,
+    pub free: bool,
+    pub last: Entry,
+    pub conflict: Instanced,
+}
+
+// What a step changes of a run: nothing, being refused; or it appends a decision, skips the last entry, replaces the conflict, adds constants.
+// `Whole` is of a rule that looks at the whole trail: the run is to be asked.
+pub enum Change {
+    Whole,
+    Refused { number: u8 },
+    Decided,
+    Skipped { level: u8 },
+    Replaced,
+    Grown { constants: u8 },
+}
+
+// A change with the entry that it appends, else the last one, and the conflict that it leaves.
+pub struct Effect {
+    pub change: Change,
+    pub entry: Entry,
+    pub conflict: Instanced,
 }
 
 // One proposed step: a rule number and its arguments; those that the rule has no use for are not looked at.
@@ -161,17 +195,26 @@ fn instance_named(run: Run, c: u8, clause: Clause, instance: Instance, count: u8
 }
 
 // .. and a literal of it
-fn literal_named(run: Run, c: u8, clause: Clause, l: u8, instance: Instance, count: u8) -> bool
-    requires { ⌜ (run .input ≤ mostInput) × (run .learned ≤ mostLearned) × (count ≤ mostVariables) ⌝ }
-    ensures { λ r. ⌜ r ≡ (between 1 (run .input + run .learned) c && (literalExists (clauseOf clause) l && instanceFits (run .constants) (clauseOf clause) (take count instance))) ⌝ }
+fn literal_named(
+    constants: u8,
+    input: u8,
+    learned: u8,
+    c: u8,
+    clause: Clause,
+    l: u8,
+    instance: Instance,
+    count: u8,
+) -> bool
+    requires { ⌜ (input ≤ mostInput) × (learned ≤ mostLearned) × (count ≤ mostVariables) ⌝ }
+    ensures { λ r. ⌜ r ≡ (between 1 (input + learned) c && (literalExists (clauseOf clause) l && instanceFits constants (clauseOf clause) (take count instance))) ⌝ }
 {
-    if !clause_exists(run.input, run.learned, c) {
+    if !clause_exists(input, learned, c) {
         return false;
     }
     if !literal_exists(clause, l) {
         return false;
     }
-    instance_fits(run.constants, clause, instance, count)
+    instance_fits(constants, clause, instance, count)
 }
 
 // Two different literals of the conflict
@@ -414,28 +457,300 @@ fn learning(run: Run, grown: Grown, i: u8) -> Run
 
 // ---- the rules
 
+// The slot of the last entry; of the empty trail the first
+pub fn last_slot(length: u8) -> usize
+    ensures { λ r. ⌜ r ≡ length - 1 ⌝ }
+{
+    if length < 1 {
+        return 0;
+    }
+    length as usize - 1
+}
+
+// Whether the literal that a Decide names is undefined
+pub fn is_free(
+    trail: [Entry; MOST_ENTRIES],
+    length: u8,
+    clause: Clause,
+    l: u8,
+    sign: u8,
+    instance: Instance,
+    count: u8,
+) -> bool
+    requires { ⌜ length ≤ mostEntries ⌝ }
+    ensures { λ r. ⌜ r ≡ isFree trail length clause l sign (take count instance) ⌝ }
+{
+    let g = decided_literal(clause, l, sign == 1, instance, count);
+    undefined(trail, length, g)
+}
+
+impl Top {
+    // A change that leaves the conflict and appends nothing
+    fn changed(self, change: Change) -> Effect
+        ensures { λ e. ⌜ e ≡ changing self change ⌝ }
+    {
+        let e = self.last;
+        let n = self.conflict;
+        Effect {
+            change: change,
+            entry: e,
+            conflict: n,
+        }
+    }
+
+    fn refusal(self, number: u8) -> Effect
+        ensures { λ e. ⌜ e ≡ changing self (Refused number) ⌝ }
+    {
+        let change = Change::Refused { number: number };
+        self.changed(change)
+    }
+
+    fn whole(self) -> Effect
+        ensures { λ e. ⌜ e ≡ changing self Whole ⌝ }
+    {
+        let change = Change::Whole;
+        self.changed(change)
+    }
+
+    // The conflict is replaced.
+    fn replacing(self, n: Instanced) -> Effect
+        ensures { λ e. ⌜ e ≡ record { change = Replaced; entry = self .last; conflict = n } ⌝ }
+    {
+        let e = self.last;
+        let change = Change::Replaced;
+        Effect {
+            change: change,
+            entry: e,
+            conflict: n,
+        }
+    }
+
+    fn grow(self, amount: u8) -> Effect
+        requires { ⌜ Seen self ⌝ }
+        ensures { λ e. ⌜ Does self 8 (Grow amount) e ⌝ }
+    {
+        if self.stands {
+            return self.refusal(WRONG_MOMENT);
+        }
+        if amount < 1 {
+            return self.refusal(NO_SUCH);
+        }
+        if MOST_CONSTANTS - (self.constants as usize) < amount as usize {
+            return self.refusal(NO_ROOM);
+        }
+        let constants = self.constants + amount;
+        let change = Change::Grown {
+            constants: constants,
+        };
+        self.changed(change)
+    }
+
+    fn skip(self) -> Effect
+        requires { ⌜ Seen self ⌝ }
+        ensures { λ e. ⌜ Does self 6 Skip e ⌝ }
+    {
+        if !self.stands {
+            return self.refusal(WRONG_MOMENT);
+        }
+        if self.length < 1 {
+            return self.refusal(NO_ENTRY);
+        }
+        let e = self.last;
+        let n = self.conflict;
+        if in_conflict(n, e) {
+            return self.refusal(WRONG_LITERAL);
+        }
+        let level = level_after(e, self.level);
+        let change = Change::Skipped { level: level };
+        self.changed(change)
+    }
+
+    fn factorize(self, i: u8, j: u8) -> Effect
+        requires { ⌜ Seen self ⌝ }
+        ensures { λ e. ⌜ Does self 5 (Factorize i j) e ⌝ }
+    {
+        if !self.stands {
+            return self.refusal(WRONG_MOMENT);
+        }
+        let n = self.conflict;
+        if !two_literals(n, i, j) {
+            return self.refusal(NO_SUCH);
+        }
+        if !same_instance(n, i, j) {
+            return self.refusal(WRONG_LITERAL);
+        }
+        let merged = merging::factorize(n, place_of(i), place_of(j));
+        let of = merged.of;
+        self.replacing(of)
+    }
+
+    fn resolve(self, clause: Clause, l: u8) -> Effect
+        requires { ⌜ Seen self ⌝ }
+        ensures { λ e. ⌜ DoesWith self clause 4 (Resolve l) e ⌝ }
+    {
+        if !self.stands {
+            return self.refusal(WRONG_MOMENT);
+        }
+        let n = self.conflict;
+        let c = n.clause;
+        if !literal_exists(c, l) {
+            return self.refusal(NO_SUCH);
+        }
+        if self.length < 1 {
+            return self.refusal(NO_ENTRY);
+        }
+        let e = self.last;
+        if !is_propagated(e) {
+            return self.refusal(NO_ENTRY);
+        }
+        if !is_complement(e, n, l) {
+            return self.refusal(WRONG_LITERAL);
+        }
+        let merged = resolvent(n, l, e, clause);
+        if !merged.fits {
+            return self.refusal(NO_ROOM);
+        }
+        let resolved = merged.of;
+        self.replacing(resolved)
+    }
+
+    fn decide(self, c: u8, clause: Clause, l: u8, sign: u8, instance: Instance, count: u8) -> Effect
+        requires { ⌜ Seen self ⌝ }
+        ensures { λ e. ⌜ Decides self clause c l sign count instance e ⌝ }
+    {
+        if MOST_VARIABLES < count as usize {
+            return self.refusal(ABOVE_LIMIT);
+        }
+        if 1 < sign {
+            return self.refusal(OUT_OF_RANGE);
+        }
+        if self.stands {
+            return self.refusal(WRONG_MOMENT);
+        }
+        let positive = sign == 1;
+        let named = literal_named(
+            self.constants,
+            self.input,
+            self.learned,
+            c,
+            clause,
+            l,
+            instance,
+            count,
+        );
+        let number = naming_refusal(named, self.free);
+        if number != 0 {
+            return self.refusal(number);
+        }
+        if MOST_ENTRIES <= self.length as usize {
+            return self.refusal(NO_ROOM);
+        }
+        let g = decided_literal(clause, l, positive, instance, count);
+        let e = decided_entry(g, c, l, positive, instance, count);
+        let n = self.conflict;
+        let change = Change::Decided;
+        Effect {
+            change: change,
+            entry: e,
+            conflict: n,
+        }
+    }
+
+    // What a step does, told from the top of its run: 7 for an unknown rule.
+    pub fn effect(self, clause: Clause, x: Step) -> Effect
+        requires { ⌜ Seen self ⌝ }
+        ensures { λ e. ⌜ Effects self clause x e ⌝ }
+    {
+        let rule = x.rule;
+        let instance = x.instance;
+        match rule {
+            1 => self.whole(),
+            2 => self.decide(x.clause, clause, x.literal, x.sign, instance, x.count),
+            3 => self.whole(),
+            4 => self.resolve(clause, x.literal),
+            5 => self.factorize(x.literal, x.other),
+            6 => self.skip(),
+            7 => self.whole(),
+            8 => self.grow(x.amount),
+            _ => self.refusal(UNKNOWN_RULE),
+        }
+    }
+}
+
 impl Run {
+    // The run without its trail
+    fn top(self, free: bool) -> Top
+        requires { ⌜ self .length ≤ mostEntries ⌝ }
+        ensures { λ t. ⌜ t ≡ topOf self free ⌝ }
+    {
+        let e = self.trail[last_slot(self.length)];
+        let n = self.conflict;
+        Top {
+            constants: self.constants,
+            input: self.input,
+            learned: self.learned,
+            level: self.level,
+            length: self.length,
+            stands: self.stands,
+            free: free,
+            last: e,
+            conflict: n,
+        }
+    }
+
+    // The answer that an effect makes
+    fn after(self, effect: Effect) -> Stepped
+        requires { ⌜ Fits self (effect .change) ⌝ }
+        ensures { λ a. ⌜ a ≡ after self effect ⌝ }
+    {
+        let change = effect.change;
+        match change {
+            Change::Whole => accepted(self),
+            Change::Refused { number } => refused(self, number),
+            Change::Decided => {
+                let entry = effect.entry;
+                let k = self.length as usize;
+                let mut next = self;
+                next.level = self.level + 1;
+                next.length = self.length + 1;
+                next.trail[k] = entry;
+                accepted(next)
+            }
+            Change::Skipped { level } => {
+                let blank = no_entry();
+                let k = last_slot(self.length);
+                let mut next = self;
+                next.level = level;
+                next.length = k as u8;
+                next.trail[k] = blank;
+                accepted(next)
+            }
+            Change::Replaced => {
+                let conflict = effect.conflict;
+                let mut next = self;
+                next.conflict = conflict;
+                accepted(next)
+            }
+            Change::Grown { constants } => {
+                let blank = empty_trail();
+                let mut next = self;
+                next.constants = constants;
+                next.level = 0;
+                next.length = 0;
+                next.trail = blank;
+                accepted(next)
+            }
+        }
+    }
+
     // "8 Grow (count). No conflict. So many constants are added at the end; trail empty, k is 0."
     pub fn grow(self, amount: u8) -> Stepped
         requires { ⌜ Kept self ⌝ }
         ensures { λ a. ⌜ Answers self (Grow amount) a ⌝ }
     {
-        if self.stands {
-            return refused(self, WRONG_MOMENT);
-        }
-        if amount < 1 {
-            return refused(self, NO_SUCH);
-        }
-        if MOST_CONSTANTS - (self.constants as usize) < amount as usize {
-            return refused(self, NO_ROOM);
-        }
-        let blank = empty_trail();
-        let mut next = self;
-        next.constants = self.constants + amount;
-        next.level = 0;
-        next.length = 0;
-        next.trail = blank;
-        accepted(next)
+        let top = self.top(true);
+        let e = top.grow(amount);
+        self.after(e)
     }
 
     // "6 Skip. The last entry goes, if it is an atom or if its complement is not in the conflict. A decision skipped lowers k by one."
@@ -443,26 +758,9 @@ impl Run {
         requires { ⌜ Kept self ⌝ }
         ensures { λ a. ⌜ Answers self Skip a ⌝ }
     {
-        if !self.stands {
-            return refused(self, WRONG_MOMENT);
-        }
-        let length = self.length;
-        if length < 1 {
-            return refused(self, NO_ENTRY);
-        }
-        let k = length as usize - 1;
-        let e = self.trail[k];
-        let n = self.conflict;
-        if in_conflict(n, e) {
-            return refused(self, WRONG_LITERAL);
-        }
-        let level = level_after(e, self.level);
-        let blank = no_entry();
-        let mut next = self;
-        next.level = level;
-        next.length = length - 1;
-        next.trail[k] = blank;
-        accepted(next)
+        let top = self.top(true);
+        let e = top.skip();
+        self.after(e)
     }
 
     // "5 Factorize (two different literals with the same instance). Their variables are merged; the one with the larger number goes."
@@ -470,21 +768,9 @@ impl Run {
         requires { ⌜ Kept self ⌝ }
         ensures { λ a. ⌜ Answers self (Factorize i j) a ⌝ }
     {
-        if !self.stands {
-            return refused(self, WRONG_MOMENT);
-        }
-        let n = self.conflict;
-        if !two_literals(n, i, j) {
-            return refused(self, NO_SUCH);
-        }
-        if !same_instance(n, i, j) {
-            return refused(self, WRONG_LITERAL);
-        }
-        let merged = merging::factorize(n, place_of(i), place_of(j));
-        let of = merged.of;
-        let mut next = self;
-        next.conflict = of;
-        accepted(next)
+        let top = self.top(true);
+        let e = top.factorize(i, j);
+        self.after(e)
     }
 
     // "4 Resolve (literal L'). The last entry is a propagated literal, the complement of L'." It is handed the last entry's clause, from
@@ -493,35 +779,9 @@ impl Run {
         requires { ⌜ Handed self clause (Resolve l) ⌝ }
         ensures { λ a. ⌜ Answered self clause (Resolve l) a ⌝ }
     {
-        if !self.stands {
-            return refused(self, WRONG_MOMENT);
-        }
-        let n = self.conflict;
-        let c = n.clause;
-        if !literal_exists(c, l) {
-            return refused(self, NO_SUCH);
-        }
-        let length = self.length;
-        if length < 1 {
-            return refused(self, NO_ENTRY);
-        }
-        let last = length - 1;
-        let k = last as usize;
-        let e = self.trail[k];
-        if !is_propagated(e) {
-            return refused(self, NO_ENTRY);
-        }
-        if !is_complement(e, n, l) {
-            return refused(self, WRONG_LITERAL);
-        }
-        let merged = resolvent(n, l, e, clause);
-        if !merged.fits {
-            return refused(self, NO_ROOM);
-        }
-        let resolved = merged.of;
-        let mut next = self;
-        next.conflict = resolved;
-        accepted(next)
+        let top = self.top(true);
+        let e = top.resolve(clause, l);
+        self.after(e)
     }
 
     // "2 Decide (clause, literal, sign, instance). No conflict. The atom of the literal, with the sign given, is undefined. It is appended, k
@@ -538,31 +798,11 @@ impl Run {
         requires { ⌜ Handed self clause (Decide c l sign (exactly count 0 instance)) ⌝ }
         ensures { λ a. ⌜ Answered self clause (Decide c l sign (exactly count 0 instance)) a ⌝ }
     {
-        if MOST_VARIABLES < count as usize {
-            return refused(self, ABOVE_LIMIT);
-        }
-        if 1 < sign {
-            return refused(self, OUT_OF_RANGE);
-        }
-        if self.stands {
-            return refused(self, WRONG_MOMENT);
-        }
         let trail = self.trail;
-        let length = self.length;
-        let positive = sign == 1;
-        let named = literal_named(self, c, clause, l, instance, count);
-        let g = decided_literal(clause, l, positive, instance, count);
-        let free = undefined(trail, length, g);
-        let number = naming_refusal(named, free);
-        if number != 0 {
-            return refused(self, number);
-        }
-        let grown = push_decided(trail, length, g, c, l, positive, instance, count);
-        if !grown.fits {
-            return refused(self, NO_ROOM);
-        }
-        let next = with_trail(self, grown, self.level + 1);
-        accepted(next)
+        let free = is_free(trail, self.length, clause, l, sign, instance, count);
+        let top = self.top(free);
+        let e = top.decide(c, clause, l, sign, instance, count);
+        self.after(e)
     }
 
     // "3 Conflict (clause, instance). No conflict. All literals false; trail and clause atoms together possible. The clause becomes the
@@ -617,7 +857,16 @@ impl Run {
         }
         let held = self.trail;
         let length = self.length;
-        let named = literal_named(self, c, clause, l, instance, count);
+        let named = literal_named(
+            self.constants,
+            self.input,
+            self.learned,
+            c,
+            clause,
+            l,
+            instance,
+            count,
+        );
         let g = literal_instance(clause, l, instance, count);
         let free = undefined(held, length, g);
         let number = naming_refusal(named, free);

@@ -148,7 +148,14 @@ pub record Header : Type 0 where
   pub input : List Clause
   pub count : ℕ
 
--- "The three letters DRF, version 1 (16 bits); constants; predicates and an arity each; input clauses .. Then the number of steps"
+-- m input clauses, "Then the number of steps"
+abbrev pub fromClauses : (constants : ℕ) (arities : List ℕ) (m : ℕ) → Reader Header
+fromClauses constants arities m =
+    times m (clause arities) then λ cs.
+    stepCount then λ t.
+    give (record { constants = constants; arities = arities; input = cs; count = t })
+
+-- "The three letters DRF, version 1 (16 bits); constants; predicates and an arity each; input clauses .."
 unfoldable pub header : Reader Header
 header =
     mark then λ _.
@@ -157,9 +164,7 @@ header =
     count mostPredicates then λ n.
     times n (count mostArguments) then λ arities.
     count mostInput then λ m.
-    times m (clause arities) then λ cs.
-    stepCount then λ t.
-    give (record { constants = constants; arities = arities; input = cs; count = t })
+    fromClauses constants arities m
 
 -- "8: bytes after the last step"
 abbrev pub end : Reader Unit

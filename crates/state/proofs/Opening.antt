@@ -10,7 +10,7 @@ use lib.ListN.{length, length-map}
 use borrow.Author.Tests.{eq-eqb, ne-eqb}
 use Rattle.admission.specs.Offered as admission
 use Rattle.admission.specs.declared.TableAnswer.{TableAnswer}
-use Rattle.basis.specs.Limits.{mostInput, mostPredicates}
+use Rattle.basis.specs.Limits.{mostClauses, mostInput, mostPredicates}
 use Rattle.basis.specs.Refusals.{accepted}
 use Rattle.lists.specs.Arrays.{exactly}
 use Rattle.lists.proofs.Arrays.{exactly-again, exactly-length}
@@ -20,7 +20,7 @@ use Rattle.calculus.proofs.Admitting.{admitted-exactly}
 use Rattle.clauses.specs.Records.{packed}
 use Rattle.clauses.specs.declared.Clause.{Clause}
 use Rattle.rules.proofs.Told.{admitted-reached}
-use Rattle.state.specs.States.{AdmitKeeps, AdmitMakesStates, IsNew, madeOf, mostClauses, newRun, opened, packedState, packedTable}
+use Rattle.state.specs.States.{AdmitKeeps, AdmitMakesStates, IsNew, madeOf, newRun, opened, packedState, packedTable}
 use Rattle.state.specs.declared.Opened.{Opened}
 use Rattle.state.specs.declared.State.{State}
 

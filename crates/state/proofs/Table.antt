@@ -1,20 +1,19 @@
 -- The table of clauses: what a step looks at in it, and how a step changes it.
 use mathlib.Core.Path.{_≡_, refl, sym, ap, subst, _∙_}
 use mathlib.Core.List.{List, [], _∷_, _++_, map, append-assoc, map-append}
-use mathlib.Core.Bool.{Bool, false, cond}
+use mathlib.Core.Bool.{Bool, true, false, cond}
 use Prim.Native.Nat.{ℕ, _+_, _-_, _≤_, _<_}
 use native.Mathlib.Decide.{ℕ-discrete, decLt}
 use native.Mathlib.Omega.{arith}
 use lib.Dec.{T, eqb, leb, leb→le}
 use lib.ListN.{List·getD-map, length, getD, set, length-append, length-map}
 use borrow.Author.Tests.{eq-eqb, le-leb}
-use Rattle.basis.specs.Limits.{mostEntries, mostPredicates}
+use Rattle.basis.specs.Limits.{mostClauses, mostPredicates}
 use Rattle.basis.specs.Numbers.{whole}
 use Rattle.basis.specs.Refusals.{accepted}
 use Rattle.lists.specs.Arrays.{exactly}
 use Rattle.lists.proofs.Arrays.{exactly-length, getD-any, getD-held, set-exactly}
 use Rattle.lists.proofs.Tests.{and-l, and-r}
-use Rattle.calculus.specs.Checks.{between}
 use Rattle.calculus.specs.Clauses as calculus
 use Rattle.calculus.specs.Rules.{Answer, Judged, clauseExists, next}
 use Rattle.calculus.specs.Runs as runs
@@ -27,20 +26,21 @@ use Rattle.clauses.specs.Records.{packed}
 use Rattle.clauses.specs.declared.Clause.{Clause}
 use Rattle.rules.specs.Answers as rules
 use Rattle.rules.specs.Answers.{IsLast, Looks, RunOf, Told}
+use Rattle.rules.specs.Effects.{lastOf, topOf}
 use Rattle.rules.specs.Records as records
 use Rattle.rules.specs.Records.{stepOf}
 use Rattle.rules.specs.declared.Run.{Run}
 use Rattle.rules.specs.declared.Step.{Step}
 use Rattle.rules.specs.declared.Stepped.{Stepped}
 use Rattle.rules.proofs.Reached.{AllFine, reached-fine}
-use Rattle.rules.proofs.Runs.{clauses-is, conflict-is, fine, input-is, lastOf, learned-is, stored, trail-last, trail-none}
+use Rattle.rules.proofs.Runs.{clauses-is, conflict-is, fine, input-is, last-shown, learned-is, none-shown}
 use Rattle.rules.proofs.Steps.{propagate-step, decide-step, conflict-step, resolve-step, factorize-step, skip-step, backtrack-step, grow-step, unknown-step}
 use Rattle.rules.proofs.Told.{steps-keep-reached}
-use Rattle.trail.specs.Entries.{entryAs, trailOf}
+use Rattle.trail.specs.Entries.{entryAs, pastEnd, trailOf}
 use Rattle.trail.specs.declared.Kind.{Kind}
 use Rattle.trail.specs.declared.Kind.the-variants.{Background, Propagated, Decided}
 use Rattle.trail.specs.declared.Entry as entries
-use Rattle.state.specs.States.{StateOf, lookedAt, mostClauses, packedAnswer, packedTable, slotOf}
+use Rattle.state.specs.States.{StateOf, lookedAt, packedAnswer, packedTable, slotOf}
 use Rattle.state.specs.declared.Answered.{Answered}
 use Rattle.state.specs.declared.State.{State}
 
@@ -102,42 +102,43 @@ module _ {run : Run} {s : states.State} {table : List Clause} (R : RunOf run s) 
         ∙ getD-held (packed calculus.noClause) mostClauses (map packed (clauses s)) (c - 1) (omega (arith, length-map (clauses s) packed, few))
         ∙ List·getD-map packed (clauses s) (c - 1) calculus.noClause
 
-    named : (x : Step) → eqb (x .rule) 4 ≡ false → T (clauseExists (clauses s) (x .clause)) → getD table (slotOf (lookedAt run x)) blank ≡ packed (clauseAt (clauses s) (x .clause))
-    named x e t = ap (λ (b : Bool). getD table (slotOf (cond b (cond (between 1 mostEntries (run .length)) (lastOf run .clause) 0) (x .clause))) blank) e ∙ table-at (x .clause) t
-
     abbrev E : entries.Entry
     E = lastOf run
+
+    named : (x : Step) → eqb (x .rule) 4 ≡ false → T (clauseExists (clauses s) (x .clause)) → getD table (slotOf (lookedAt E x)) blank ≡ packed (clauseAt (clauses s) (x .clause))
+    named x e t = ap (λ (b : Bool). getD table (slotOf (cond b (E .clause) (x .clause))) blank) e ∙ table-at (x .clause) t
 
     abbrev rest : Trail
     rest = trailOf (run .trail) (run .length - 1)
 
-    last-at : (x : Step) → x .rule ≡ 4 → 1 ≤ run .length → lookedAt run x ≡ E .clause
-    last-at x e h = simp (eq-eqb (x .rule) 4 e, le-leb 1 (run .length) h, le-leb (run .length) mostEntries (stored R .few))
+    last-at : (x : Step) → x .rule ≡ 4 → lookedAt E x ≡ E .clause
+    last-at x e = simp (eq-eqb (x .rule) 4 e)
 
-    by-kind : (x : Step) (q : Kind) → AllFine (clauses s) (s .constants) (entryAs q E ∷ rest) → lookedAt run x ≡ E .clause → IsLast (clauses s) (entryAs q E ∷ rest) (getD table (slotOf (lookedAt run x)) blank)
+    by-kind : (x : Step) (q : Kind) → AllFine (clauses s) (s .constants) (entryAs q E ∷ rest) → lookedAt E x ≡ E .clause → IsLast (clauses s) (entryAs q E ∷ rest) (getD table (slotOf (lookedAt E x)) blank)
     by-kind x Background f a = tt
     by-kind x Propagated f a = ap (λ (c : ℕ). getD table (slotOf c) blank) a ∙ table-at (E .clause) (f .0 .1)
     by-kind x Decided f a = tt
 
-    last : (x : Step) → x .rule ≡ 4 → IsLast (clauses s) (s .trail) (getD table (slotOf (lookedAt run x)) blank)
+    last : (x : Step) → x .rule ≡ 4 → IsLast (clauses s) (s .trail) (getD table (slotOf (lookedAt E x)) blank)
     last x e = elim (decLt (run .length) 1) [
-      | yes h ↦ subst (λ (t : Trail). IsLast (clauses s) t (getD table (slotOf (lookedAt run x)) blank)) (sym (trail-none R h)) tt
-      | no h ↦ subst (λ (t : Trail). IsLast (clauses s) t (getD table (slotOf (lookedAt run x)) blank)) (sym (trail-last R (omega arith)))
-          (by-kind x (E .kind) (subst (AllFine (clauses s) (s .constants)) (trail-last R (omega arith)) (fine R .entries)) (last-at x e (omega arith)))
+      | yes h ↦ subst (λ (t : Trail). IsLast (clauses s) t (getD table (slotOf (lookedAt E x)) blank)) (sym (none-shown R {t = topOf run true} refl h)) tt
+      | no h ↦ subst (λ (t : Trail). IsLast (clauses s) t (getD table (slotOf (lookedAt E x)) blank)) (sym (last-shown R {t = topOf run true} refl (omega arith)))
+          (by-kind x (E .kind) (subst (AllFine (clauses s) (s .constants)) (last-shown R {t = topOf run true} refl (omega arith)) (fine R .entries)) (last-at x e))
     ]
 
-    looks : (x : Step) → Looks s (stepOf x) (getD table (slotOf (lookedAt run x)) blank)
-    looks x = by-rule (λ y. Looks s y (getD table (slotOf (lookedAt run x)) blank)) x
+    looks : (x : Step) → Looks s (stepOf x) (getD table (slotOf (lookedAt E x)) blank)
+    looks x = by-rule (λ y. Looks s y (getD table (slotOf (lookedAt E x)) blank)) x
         (λ e. named x (rw e)) (λ e. named x (rw e)) (λ e. named x (rw e)) (last x) (λ e. tt) (λ e. tt) (λ e. tt) (λ e. tt) tt
 
 -- What a read past the table's end would give
 abbrev pub pastTable : Clause
 pastTable = record { variables = 0; atomcount = 0; literalcount = 0; atoms = []; literals = [] }
 
--- What stands in the slot of the number looked at is the clause that the step looks at.
-pub looks-at : {run : Run} {s : states.State} {table : List Clause} → RunOf run s → table ≡ packedTable (clauses s) → (x : Step) (c k : ℕ) → c ≡ lookedAt run x → k ≡ slotOf c
-    → Looks s (stepOf x) (getD table k pastTable)
-looks-at {run} {s} {table} R is x c k e h = subst (λ (q : ℕ). Looks s (stepOf x) (getD table q pastTable)) (sym (h ∙ ap slotOf e)) (looks R is pastTable x)
+-- What stands in the slot of the number looked at is the clause that the step looks at; i is the slot of the last entry.
+pub looks-at : {run : Run} {s : states.State} {table : List Clause} → RunOf run s → table ≡ packedTable (clauses s) → (x : Step) (i c k : ℕ)
+    → i ≡ run .length - 1 → c ≡ lookedAt (getD (run .trail) i pastEnd) x → k ≡ slotOf c → Looks s (stepOf x) (getD table k pastTable)
+looks-at {run} {s} {table} R is x i c k l e h = subst (λ (q : ℕ). Looks s (stepOf x) (getD table q pastTable))
+    (sym (h ∙ ap slotOf e ∙ ap (λ (j : ℕ). slotOf (lookedAt (getD (run .trail) j pastEnd) x)) l)) (looks R is pastTable x)
 
 -- ---- how a step changes it
 
@@ -203,8 +204,8 @@ module _ {r : State} {s : states.State} (S : StateOf r s) where
   table-is = ap (λ (q : State). q .table) (S .is)
 
   -- What the run answers, handed the clause that the step looks at
-  pub told-of : (x : Step) (c k : ℕ) (a : Stepped) → c ≡ lookedAt (r .run) x → k ≡ slotOf c → rules.Answered (r .run) (getD (r .table) k pastTable) (stepOf x) a → Told s (stepOf x) a
-  told-of x c k a e h answered = answered s run-of (looks-at run-of table-is x c k e h)
+  pub told-of : (x : Step) (i c k : ℕ) (a : Stepped) → i ≡ r .run .length - 1 → c ≡ lookedAt (getD (r .run .trail) i pastEnd) x → k ≡ slotOf c → rules.Answered (r .run) (getD (r .table) k pastTable) (stepOf x) a → Told s (stepOf x) a
+  told-of x i c k a l e h answered = answered s run-of (looks-at run-of table-is x i c k l e h)
 
   module _ (x : Step) (a : Stepped) (told : Told s (stepOf x) a) where
     -- The next run with its table, beside predicates that no step changes

@@ -2,11 +2,11 @@
 use mathlib.Core.Path.{_≡_}
 use mathlib.Core.List.{List, [], _∷_, map, List·Memᴰ}
 use mathlib.Core.Bool.{cond, true, false}
-use Prim.Native.Nat.{ℕ, _+_, _-_, _≤_}
+use Prim.Native.Nat.{ℕ, _-_, _≤_}
 use lib.Dec.{eqb}
-use lib.ListN.{length, getD}
+use lib.ListN.{length}
 use Rattle.admission.specs.Offered as admission
-use Rattle.basis.specs.Limits.{mostEntries, mostInput, mostLearned, mostPredicates}
+use Rattle.basis.specs.Limits.{mostClauses, mostInput, mostPredicates}
 use Rattle.basis.specs.Numbers.{whole}
 use Rattle.basis.specs.Refusals.{accepted}
 use Rattle.lists.specs.Arrays.{exactly}
@@ -24,15 +24,13 @@ use Rattle.rules.specs.Answers.{Reached}
 use Rattle.rules.specs.Records.{packedRun, stepOf}
 use Rattle.rules.specs.declared.Run.{Run}
 use Rattle.rules.specs.declared.Step.{Step}
-use Rattle.trail.specs.Entries.{packedTrail, pastEnd}
+use Rattle.trail.specs.Entries.{packedTrail}
+use Rattle.trail.specs.declared.Entry.{Entry}
 use Rattle.state.specs.declared.State.{State}
 use Rattle.state.specs.declared.Answered.{Answered}
 use Rattle.state.specs.declared.Opened.{Opened}
 
--- "Learned clauses are numbered after the input ones": one table for both, blank past them.
-abbrev pub mostClauses : ℕ
-mostClauses = mostInput + mostLearned
-
+-- The table of the input clauses and the learned ones after them, blank past them
 unfoldable pub packedTable : List calculus.Clause → List Clause
 packedTable cs = exactly mostClauses (packed calculus.noClause) (map packed cs)
 
@@ -101,9 +99,9 @@ AdmitKeeps = (constants : ℕ) (arities : List ℕ) (cs : List calculus.Clause) 
 
 -- ---- steps
 
--- The number of the clause that a step looks at: the named one; Resolve looks at the last entry's, and where no entry can be last at none.
-abbrev pub lookedAt : Run → Step → ℕ
-lookedAt r x = cond (eqb (x .rule) 4) (cond (between 1 mostEntries (r .length)) (getD (r .trail) (r .length - 1) pastEnd .clause) 0) (x .clause)
+-- The number of the clause that a step looks at: the named one; Resolve looks at the last entry's, which is none's where the trail is empty.
+abbrev pub lookedAt : Entry → Step → ℕ
+lookedAt e x = cond (eqb (x .rule) 4) (e .clause) (x .clause)
 
 -- Its slot in the table; of a number that no table has, any
 abbrev pub slotOf : ℕ → ℕ

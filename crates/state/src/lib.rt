@@ -1,13 +1,13 @@
 // A state with its clauses: only admission makes it and only steps change it.
 ghost use mathlib.Core.Path.{_≡_};
 ghost use Prim.Native.Nat.{_≤_, _<_};
-ghost use Rattle.basis.specs.Limits.{mostPredicates};
+ghost use Rattle.basis.specs.Limits.{mostClauses, mostPredicates};
 ghost use Rattle.lists.specs.Arrays.{exactly};
 ghost use Rattle.calculus.specs.Clauses as calculus;
 ghost use Rattle.clauses.specs.Records.{packed};
 ghost use Rattle.admission.specs.Offered.{offeredArities, offeredTable};
-ghost use Rattle.state.specs.States.{Answers, IsNew, Kept, lookedAt, mostClauses, newRun, opened, slotOf};
-use basis::MOST_ENTRIES;
+ghost use Rattle.state.specs.States.{Answers, IsNew, Kept, lookedAt, newRun, opened, slotOf};
+use basis::MOST_CLAUSES;
 use basis::MOST_INPUT;
 use basis::MOST_PREDICATES;
 use clauses::Clause;
@@ -15,10 +15,9 @@ use clauses::no_clause;
 use clauses::no_instanced;
 use rules::Run;
 use rules::Step;
+use rules::last_slot;
+use trail::Entry;
 use trail::empty_trail;
-
-// "At most 48 input and 48 learned clauses": one table for both.
-pub const MOST_CLAUSES: usize = 96;
 
 // "A state is predicates with arities, trail, input clauses, learned clauses, constants, level k, and a conflict or none." The fields are
 // private: what stands here was admitted or learned.
@@ -147,21 +146,12 @@ pub fn admit(
 
 // ---- steps
 
-// The number of the clause that a step looks at: the named one; Resolve looks at the last entry's, and where no entry can be last at none.
-pub fn looked_at(run: Run, x: Step) -> u8
-    ensures { λ r. ⌜ r ≡ lookedAt run x ⌝ }
+// The number of the clause that a step looks at: the named one; Resolve looks at the last entry's, which is none's where the trail is empty.
+pub fn looked_at(last: Entry, x: Step) -> u8
+    ensures { λ r. ⌜ r ≡ lookedAt last x ⌝ }
 {
     if x.rule == 4 {
-        let length = run.length;
-        if length < 1 {
-            return 0;
-        }
-        if MOST_ENTRIES < length as usize {
-            return 0;
-        }
-        let k = length as usize - 1;
-        let e = run.trail[k];
-        return e.clause;
+        return last.clause;
     }
     x.clause
 }
@@ -187,7 +177,9 @@ impl State {
         ensures { λ a. ⌜ Answers self x a ⌝ }
     {
         let run = self.run;
-        let c = looked_at(run, x);
+        let slot = last_slot(run.length);
+        let last = run.trail[slot];
+        let c = looked_at(last, x);
         let k = slot_of(c);
         let clause = self.table[k];
         let a = run.step(clause, x);

@@ -11,7 +11,7 @@ use Rattle.runfile.specs.Readers.{Got, bad, got, times}
 use Rattle.runfile.proofs.Given.{every-file}
 use Rattle.runfile.proofs.Times.{times-front, times-length}
 use Rattle.fields.specs.declared.Cursor.the-variants as C
-use Rattle.header.specs.Records.{packedHeader}
+use Rattle.header.specs.Records.{inputOf, packedHeader}
 use Rattle.header.specs.declared.HeaderRead.{HeaderRead}
 use Rattle.rules.specs.Records.{stepOf}
 use Rattle.steps.specs.Records.{fileAnswer, packedStep, stepAnswer}
@@ -34,6 +34,7 @@ pub record Reads (s : List ℕ) (h : HeaderRead) (first : ℕ) : Type 0 where
   pub next : ℕ
   pub is : file s ≡ got says next
   pub head : h ≡ headerOf says first
+  pub input : inputOf (header s 0) ≡ says .input
   pub sayable : Sayable says
   pub ahead : Ahead s first (says .steps)
 
@@ -91,6 +92,7 @@ module _ (s : List ℕ) where
               next = next;
               is = c;
               head = rw (c, a, w, sym n) at e;
+              input = ap inputOf a;
               sayable = sayable (saying k xs) next c;
               ahead = record { last = j; reads = rw (sym n, w) at b; held = sayable (saying k xs) next c .steps-held };
             }

@@ -1,8 +1,7 @@
 -- How the parts of a step follow each other, one law for each rule; then the steps and the whole file.
 use mathlib.Core.Path.{_∙_, _≡_, ap, refl, sym}
-use mathlib.Core.List.{List, [], _++_, _∷_}
-use Prim.Native.Nat.{_+_, _<_, _≤_, ℕ}
-use native.Mathlib.Numerals.{add-one}
+use mathlib.Core.List.{List}
+use Prim.Native.Nat.{_<_, _≤_, ℕ}
 use native.Mathlib.Omega.{arith}
 use lib.ListN.{length, take}
 use lib.Seq.{length-take-le}
@@ -11,7 +10,7 @@ use Rattle.basis.specs.Limits.{mostVariables}
 use Rattle.basis.specs.Refusals.{surplus}
 use Rattle.steps.specs.Records.{fileAnswer, inOrder, packedStep, stepAnswer, stepRecord}
 use Rattle.calculus.specs.States.{Backtrack, Conflict, Decide, Factorize, Grow, Propagate, Resolve, Skip}
-use Rattle.fields.proofs.Laws.{Leads, and-give, and-then, filled-long, leads, leads-give, leads-then, no-refusal, nothing, same-refusal, times-none}
+use Rattle.fields.proofs.Laws.{Leads, and-give, and-then, filled-long, leads, leads-give, leads-then, no-refusal, nothing, reached-of, same-refusal}
 use Rattle.fields.specs.Views.{Filled, after, reached, viewed}
 use Rattle.fields.specs.declared.Cursor.{Cursor}
 use Rattle.header.specs.Records.{packedHeader}
@@ -117,17 +116,10 @@ module _ (s : List ℕ) where
       by (got y k) q = no-refusal (sym q)
       by (bad m r) q = ap stepAnswer (same-refusal q)
 
--- ---- where readings end
+-- ---- the whole file
 
-module _ {A : Type 0} where
-  pub reached-of : (c : Cursor) (x : A) {g : Got A} → viewed c x ≡ g → c ≡ reached g
-  reached-of c x {g} e = rw (sym e) (by c)
-    where
-      by : (c : Cursor) → c ≡ reached (viewed c x)
-      by (C.At j) = refl
-      by (C.Refused n p) = refl
-
-  reached-through : {B : Type 0} (s : List ℕ) (c : Cursor) (f : Reader A) (y : A → B) → reached (after c ((f then λ x. give (y x)) s)) ≡ reached (after c (f s))
+module _ {A B : Type 0} where
+  reached-through : (s : List ℕ) (c : Cursor) (f : Reader A) (y : A → B) → reached (after c ((f then λ x. give (y x)) s)) ≡ reached (after c (f s))
   reached-through s (C.At i) f y = by (f s i)
     where
       by : (g : Got A) → reached (onward g (λ x j. got (y x) j)) ≡ reached g
@@ -135,26 +127,8 @@ module _ {A : Type 0} where
       by (bad n p) = refl
   reached-through s (C.Refused n p) f y = refl
 
-  pub ends-more : (s : List ℕ) (f : Reader A) (c₀ c₁ c₂ : Cursor) (j : ℕ) → c₁ ≡ reached (after c₀ (times j f s)) → c₂ ≡ reached (after c₁ (f s)) → c₂ ≡ reached (after c₀ (times (j + 1) f s))
-  unfolding times
-  ends-more s f (C.At i) c₁ c₂ j e h = rw (add-one j) (by (times j f s i) e)
-    where
-      on : (xs : List A) (g : Got A) → c₂ ≡ reached g → c₂ ≡ reached (onward g (λ x k. got (xs ++ (x ∷ [])) k))
-      on xs (got x k) q = q
-      on xs (bad n p) q = q
-
-      by : (g : Got (List A)) → c₁ ≡ reached g → c₂ ≡ reached (onward g (λ xs k. onward (f s k) (λ x l. got (xs ++ (x ∷ [])) l)))
-      by (got xs k) q = on xs (f s k) (rw q at h)
-      by (bad n p) q = rw q at h
-  ends-more s f (C.Refused n p) c₁ c₂ j e h = rw e at h
-
-pub ends-none : {A : Type 0} (s : List ℕ) (f : Reader A) (c : Cursor) → c ≡ reached (after c (times 0 f s))
-ends-none s f c = reached-of c [] (times-none s f c)
-
 pub step-ends : (s : List ℕ) (c₁ c₂ : Cursor) (x : Step) → viewed c₂ x ≡ after c₁ ((step then λ y. give (packedStep y)) s) → c₂ ≡ reached (after c₁ (step s))
 step-ends s c₁ c₂ x e = reached-of c₂ x e ∙ reached-through s c₁ step packedStep
-
--- ---- the whole file
 
 abbrev saying : Header → List calculus.Step → File
 saying h xs = record { constants = h .constants; arities = h .arities; input = h .input; steps = xs }

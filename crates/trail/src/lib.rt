@@ -2,7 +2,7 @@
 // An array with its length is the trail of its first entries; length is at most 160. Functions that add or take away entries also take for
 // granted that the array is blank past its length and that each entry is the record of what it says: `Held`.
 ghost use mathlib.Core.Path.{_≡_};
-ghost use mathlib.Core.List.{[], _∷_, _++_};
+ghost use mathlib.Core.List.{[], _++_};
 ghost use mathlib.Core.Bool.{false, _&&_, cond};
 ghost use Prim.Native.Nat.{suc, _-_, _≤_, _<_};
 ghost use lib.ListN.{length, getD, take};
@@ -554,7 +554,8 @@ fn propagated_entry(
     }
 }
 
-fn decided_entry(
+// The entry that Decide appends
+pub fn decided_entry(
     l: Literal,
     clause: u8,
     number: u8,
@@ -589,33 +590,6 @@ fn no_room() -> Grown
         fits: false,
         length: 0,
         trail: blank,
-    }
-}
-
-// The trail with a decision appended
-pub fn push_decided(
-    trail: [Entry; MOST_ENTRIES],
-    length: u8,
-    l: Literal,
-    clause: u8,
-    number: u8,
-    sign: bool,
-    instance: [u8; MOST_VARIABLES],
-    count: u8,
-) -> Grown
-    requires { ⌜ Held trail length ⌝ }
-    ensures { λ r. ⌜ Grew r (foreground l (decided clause number sign (take count instance)) ∷ trailOf trail length) ⌝ }
-{
-    let n = length as usize;
-    if MOST_ENTRIES <= n {
-        return no_room();
-    }
-    let mut out = trail;
-    out[n] = decided_entry(l, clause, number, sign, instance, count);
-    Grown {
-        fits: true,
-        length: length + 1,
-        trail: out,
     }
 }
 

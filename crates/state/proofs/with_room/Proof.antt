@@ -5,13 +5,12 @@ use Prim.Native.Nat.{_≤_, _-_}
 use native.Mathlib.Omega.{arith}
 use lib.ListN.{getD, replicate, set, take}
 use lib.Seq.{take-all}
-use Rattle.basis.specs.Limits.{mostInput}
+use Rattle.basis.specs.Limits.{mostClauses, mostInput}
 use Rattle.lists.specs.Arrays.{exactly}
 use Rattle.lists.proofs.Arrays.{copied-turn, exactly-none, getD-any}
 use Rattle.calculus.specs.Clauses.{noClause}
 use Rattle.clauses.specs.Records.{packed}
 use Rattle.clauses.specs.declared.Clause.{Clause}
-use Rattle.state.specs.States.{mostClauses}
 use Rattle.state.proofs.Table.{pastTable}
 use Rattle.state.proofs.with_room.Statement.{statement}
 use Rattle.state.proofs.with_room.Tie as tie

@@ -7,7 +7,8 @@ use denote.Ref.{now}
 use Rattle.runfile.specs.Readers.{times}
 use Rattle.runfile.specs.File.{step}
 use Rattle.fields.specs.Views.{after, reached}
-use Rattle.steps.proofs.Parts.{ends-none, ends-more, step-ends}
+use Rattle.fields.proofs.Laws.{ends-none, ends-more}
+use Rattle.steps.proofs.Parts.{step-ends}
 use Rattle.steps.proofs.steps_end.Statement.{statement}
 use Rattle.steps.proofs.steps_end.Tie as tie
 

@@ -1,82 +1,19 @@
-use native.Mathlib.Omega.{arith}
-use mathlib.Core.Path.{sym, _∙_}
-use Rattle.rules.proofs.Parts.{off, on}
+use mathlib.Core.Bool.{true}
 use Rattle.rules.proofs.Runs.{kept-small}
-use Rattle.rules.proofs.Simple.{skip-no-conflict, skip-no-entry, skip-complement, skip-accepted}
-use Rattle.trail.proofs.Stored.{dropped}
-use borrow.Author.Needs.{needs}
 use Rattle.rules.proofs.Run.skip.Statement.{statement}
 use Rattle.rules.proofs.Run.skip.Tie as tie
 
-refused-requires : tie.Need-refused-requires
-refused-requires c κs = search needs
+top-requires : tie.Need-top-requires
+top-requires c κs = kept-small (c .pre) .few-entries
+
+skip-requires : tie.Need-skip-requires
+skip-requires c κs = (c .before .args .self, true, c .before .pre, c .top .ensures)
+
+after-requires : tie.Need-after-requires
+after-requires c κs = c .skip .ensures (c .before .before .args .self .conflict .clause) (c .before .before .args .self) true (c .before .before .pre) (c .before .top .ensures) .fits
 
 returns : tie.Need-returns
-returns c = rw (c .refused .ensures) (λ s R. skip-no-conflict R (off _ (c .before .if1 .taken)))
-
-refused-requires-2 : tie.Need-refused-requires-2
-refused-requires-2 c κs = search needs
-
-returns-2 : tie.Need-returns-2
-returns-2 c = rw (c .refused2 .ensures) (λ s R. skip-no-entry R (on _ (c .before .before .if1 .left)) (c .before .if2 .taken))
-
-cast-k : tie.Need-cast-k
-cast-k c = search needs
-
-sub-k : tie.Need-sub-k
-sub-k c = search needs
-
-mul-e : tie.Need-mul-e
-mul-e c = search needs
-
-element-copy-out-e : tie.Need-element-copy-out-e
-element-copy-out-e c = let h = kept-small (c .before .before .pre) in omega (arith, h .few-entries)
-
-in-conflict-requires : tie.Need-in-conflict-requires
-in-conflict-requires c κs = search needs
-
-refused-requires-3 : tie.Need-refused-requires-3
-refused-requires-3 c κs = search needs
-
-returns-3 : tie.Need-returns-3
-returns-3 c = rw (c .refused3 .ensures) (λ s R. skip-complement R (on _ (c .before .before .before .before .before .before .if1 .left)) (c .before .before .before .before .before .if2 .left) (sym (c .before .before .in-conflict .ensures) ∙ c .before .if3 .taken))
-
-level-after-requires : tie.Need-level-after-requires
-level-after-requires c κs = search needs
-
-no-entry-requires : tie.Need-no-entry-requires
-no-entry-requires c κs = search needs
-
-mul-blank : tie.Need-mul-blank
-mul-blank c = search needs
-
-element-set-from-blank : tie.Need-element-set-from-blank
-element-set-from-blank c = let h = kept-small (c .before .before .before .before .before .before .before .before .pre) in omega (arith, h .few-entries)
-
-accepted-requires : tie.Need-accepted-requires
-accepted-requires c κs = search needs
-
-returns-4 : tie.Need-returns-4
-returns-4 c = rw (c .accepted .ensures) (λ s R. skip-accepted R (on _ (c .before .before .before .before .before .before .before .before .if1 .left)) (c .before .before .before .before .before .before .before .if2 .left) (sym (c .before .before .before .before .in-conflict .ensures) ∙ c .before .before .before .if3 .left) _ (c .before .before .level-after .ensures) _ (dropped _ _ _ _ (omega arith) (c .before .no-entry .ensures) (kept-small (c .before .before .before .before .before .before .before .before .before .pre) .trail-held)))
+returns c = rw (c .after .ensures) (λ s R. c .before .skip .ensures (c .before .before .before .args .self .conflict .clause) (c .before .before .before .args .self) true (c .before .before .before .pre) (c .before .before .top .ensures) .answers tt s R tt)
 
 pub skip-spec : {M : Type 1} → statement M
-skip-spec =
-    tie.close
-    (tie.spec
-    refused-requires
-    returns
-    refused-requires-2
-    returns-2
-    cast-k
-    sub-k
-    mul-e
-    element-copy-out-e
-    in-conflict-requires
-    refused-requires-3
-    returns-3
-    level-after-requires
-    no-entry-requires
-    mul-blank
-    element-set-from-blank
-    accepted-requires
-    returns-4)
+skip-spec = tie.close (tie.spec top-requires skip-requires after-requires returns)

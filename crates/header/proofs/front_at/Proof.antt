@@ -1,0 +1,46 @@
+-- `header::front_at` meets its contract.
+use denote.Ref.{now}
+use Rattle.fields.proofs.Laws.{told-view}
+use Rattle.header.specs.Records.{arities}
+use Rattle.header.proofs.Parts.{front-parts}
+use borrow.Author.Needs.{needs}
+use Rattle.header.proofs.front_at.Statement.{statement}
+use Rattle.header.proofs.front_at.Tie as tie
+use Rattle.fields.specs.declared.Cursor.the-variants as C
+
+mark-at-requires : tie.Need-mark-at-requires
+mark-at-requires c κs = search needs
+
+version-at-requires : tie.Need-version-at-requires
+version-at-requires c κs = search needs
+
+count-at-requires : tie.Need-count-at-requires
+count-at-requires c κs = search needs
+
+count-at-requires-2 : tie.Need-count-at-requires-2
+count-at-requires-2 c κs = search needs
+
+predicates-at-requires : tie.Need-predicates-at-requires
+predicates-at-requires c κs = c .count-at2 .ensures .1
+
+count-at-requires-3 : tie.Need-count-at-requires-3
+count-at-requires-3 c κs = search needs
+
+returns : tie.Need-returns
+returns c = record {
+  few = c .count-at3 .ensures .1;
+  held = c .before .before .predicates-at .ensures .2;
+  rest = front-parts (now (c .before .before .before .before .before .before .before .before .args .s)) (C.At 0) (c .before .before .before .before .before .before .mark-at .result) (c .before .before .before .before .before .version-at .result) (c .before .before .before .before .count-at .result .at) (c .before .before .before .count-at2 .result .at) (c .before .before .predicates-at .result .at) (c .count-at3 .result .at) (c .before .before .before .before .count-at .result .value) (c .before .before .before .count-at2 .result .value) (arities (c .before .before .predicates-at .result .predicates)) (c .count-at3 .result .value) (c .before .before .before .before .before .before .mark-at .ensures) (c .before .before .before .before .before .version-at .ensures) (told-view (c .before .before .before .before .count-at .ensures .0)) (told-view (c .before .before .before .count-at2 .ensures .0)) (c .before .before .predicates-at .ensures .1) (told-view (c .count-at3 .ensures .0));
+}
+
+pub front-at-spec : {M : Type 1} → statement M
+front-at-spec =
+    tie.close
+    (tie.spec
+    mark-at-requires
+    version-at-requires
+    count-at-requires
+    count-at-requires-2
+    predicates-at-requires
+    count-at-requires-3
+    returns)
