@@ -16,6 +16,7 @@ use Rattle.lists.proofs.Arrays.{exactly-length, exactly-take}
 use Rattle.lists.proofs.Walks.{map-more}
 use Rattle.calculus.specs.Class.{clauseRefusal}
 use Rattle.calculus.specs.Admission.{Refused, countsFit, clausesRefusal}
+use Rattle.clauses.proofs.Records.{pastTable}
 use Rattle.clauses.specs.declared.Clause.{Clause}
 use Rattle.clauses.specs.Records.{packed}
 use Rattle.admission.specs.declared.ClauseAnswer.{ClauseAnswer}
@@ -74,34 +75,30 @@ module _ (A : List ℕ) where
 abbrev pub blank : Clause
 blank = packed calculus.noClause
 
--- What a read past the array's end would give
-abbrev pub hollow : Clause
-hollow = record { variables = 0; atomcount = 0; literalcount = 0; atoms = []; literals = [] }
-
 module _ (A : List ℕ) (n : ℕ) (l : List Clause) (h : n ≤ length l) where
   table-is : offeredTable A n l ≡ map (offered A) (take n l)
   table-is = ap (map (offered A)) (exactly-take blank n l h)
 
-  pub table-refused : (j : ℕ) {a : ClauseAnswer} {r : TableAnswer} → j < n → clausesRefusal A 1 (map (offered A) (take j l)) ≡ noRefusal → a ≡ clauseAnswer A (getD l j hollow) → (a .number ≡ accepted → ⊥) →
+  pub table-refused : (j : ℕ) {a : ClauseAnswer} {r : TableAnswer} → j < n → clausesRefusal A 1 (map (offered A) (take j l)) ≡ noRefusal → a ≡ clauseAnswer A (getD l j pastTable) → (a .number ≡ accepted → ⊥) →
       r ≡ record { number = a .number; place = j + 1; clauses = packedTable [] } → r ≡ answered (clausesRefusal A 1 (offeredTable A n l)) (offeredTable A n l)
   unfolding answered
   table-refused j {a} k ok ea bad er =
-      let C = offered A (getD l j hollow) in
-      let number = answer-number A (getD l j hollow) ea in
+      let C = offered A (getD l j pastTable) in
+      let number = answer-number A (getD l j pastTable) ea in
       let few : length (take n l) ≡ n = omega (arith, length-take n l) in
-      let parted : take n l ≡ take j l ++ getD l j hollow ∷ drop (suc j) (take n l) =
-      split-at (take n l) j hollow (omega arith) ∙ ap₂ (λ (a : List Clause) (b : Clause). a ++ b ∷ drop (suc j) (take n l)) (take-take j n l (omega arith)) (getD-take n l j hollow k) in
-      let seen = table-is ∙ ap (map (offered A)) parted ∙ map-append (offered A) (take j l) (getD l j hollow ∷ drop (suc j) (take n l)) in
+      let parted : take n l ≡ take j l ++ getD l j pastTable ∷ drop (suc j) (take n l) =
+      split-at (take n l) j pastTable (omega arith) ∙ ap₂ (λ (a : List Clause) (b : Clause). a ++ b ∷ drop (suc j) (take n l)) (take-take j n l (omega arith)) (getD-take n l j pastTable k) in
+      let seen = table-is ∙ ap (map (offered A)) parted ∙ map-append (offered A) (take j l) (getD l j pastTable ∷ drop (suc j) (take n l)) in
       let first = ap (clausesRefusal A 1) seen ∙ clauses-first A 1 (map (offered A) (take j l)) C (map (offered A) (drop (suc j) (take n l))) ok (λ e. bad (number ∙ e)) in
       let place : j + 1 ≡ 1 + length (map (offered A) (take j l)) = omega (arith, length-map (take j l) (offered A), length-take j l) in
       let whole : clausesRefusal A 1 (offeredTable A n l) ≡ record { number = a .number; place = j + 1 } = first ∙ ap₂ (λ (x y : ℕ). record { number = x; place = y }) (sym number) (sym place) in
       er ∙ sym (ap (λ (r : Refused). record { number = r .number; place = r .place; clauses = cond (eqb (r .number) accepted) (packedTable (offeredTable A n l)) (packedTable []) }) whole
       ∙ ap (λ (b : Bool). record { number = a .number; place = j + 1; clauses = cond b (packedTable (offeredTable A n l)) (packedTable []) }) (ne-eqb (a .number) accepted bad))
 
-  pub table-turn : (j : ℕ) {a : ClauseAnswer} → j < length l → clausesRefusal A 1 (map (offered A) (take j l)) ≡ noRefusal → a ≡ clauseAnswer A (getD l j hollow) → a .number ≡ accepted →
+  pub table-turn : (j : ℕ) {a : ClauseAnswer} → j < length l → clausesRefusal A 1 (map (offered A) (take j l)) ≡ noRefusal → a ≡ clauseAnswer A (getD l j pastTable) → a .number ≡ accepted →
       clausesRefusal A 1 (map (offered A) (take (j + 1) l)) ≡ noRefusal
   table-turn j k ok ea e =
-      ap (clausesRefusal A 1) (map-more (offered A) l j hollow k) ∙ clauses-more A 1 (map (offered A) (take j l)) (offered A (getD l j hollow)) ok (sym (answer-number A (getD l j hollow) ea) ∙ e)
+      ap (clausesRefusal A 1) (map-more (offered A) l j pastTable k) ∙ clauses-more A 1 (map (offered A) (take j l)) (offered A (getD l j pastTable)) ok (sym (answer-number A (getD l j pastTable) ea) ∙ e)
 
   pub table-accepted : {out : List Clause} → clausesRefusal A 1 (map (offered A) (take n l)) ≡ noRefusal → out ≡ exactly mostInput blank (map (λ c. packed (offered A c)) (take n l)) →
       _≡_ {A = TableAnswer} (record { number = accepted; place = zero; clauses = out }) (answered (clausesRefusal A 1 (offeredTable A n l)) (offeredTable A n l))

@@ -1,6 +1,6 @@
 -- A clause within the limits is what its record says.
 use mathlib.Core.Path.{_≡_, refl, sym, _∙_, ap, subst}
-use mathlib.Core.List.{List}
+use mathlib.Core.List.{List, []}
 use mathlib.Core.Bool.{Bool, true, _&&_}
 use Prim.Native.Nat.{ℕ, zero, suc, _-_, _<_}
 use native.Mathlib.Omega.{arith}
@@ -19,6 +19,10 @@ use Rattle.calculus.specs.Class.{Limited}
 use Rattle.clauses.specs.declared.Clause.{Clause}
 use Rattle.clauses.specs.Records.{clauseOf, instancedOf, packed, packedInstanced, counted, Counted}
 use Rattle.calculus.specs.Clauses as calculus
+
+-- What a read past the end of an array of clauses would give
+abbrev pub pastTable : Clause
+pastTable = record { variables = 0; atomcount = 0; literalcount = 0; atoms = []; literals = [] }
 
 pub packed-says : (C : calculus.Clause) → Limited C → clauseOf (packed C) ≡ C
 packed-says C h = λ i. record {

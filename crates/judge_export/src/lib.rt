@@ -1,6 +1,5 @@
 // Judging for programs in C or Rust: slices are lent, and the answer is numbers.
 ghost use mathlib.Core.Path.{_≡_};
-ghost use Rattle.judging.specs.declared.Written.the-variants.{Bytes};
 ghost use Rattle.judge_export.specs.Export.{Inspects, Judges, count, noted};
 use judging::Written;
 

@@ -8,7 +8,6 @@ use native.Mathlib.Decide.{ℕ-discrete}
 use native.Mathlib.Omega.{arith}
 use lib.Dec.{T, eqb, eqb→eq}
 use lib.ListN.{length, getD, set, take, drop-of-length-le}
-use lib.Seq.{length-sets}
 use borrow.Author.Tests.{eq-eqb, ne-eqb}
 use Rattle.basis.specs.Limits.{mostClauses, mostEntries}
 use Rattle.basis.specs.Refusals.{accepted}
@@ -44,9 +43,10 @@ use Rattle.steps.specs.Records.{fileAnswer, stepAnswer}
 use Rattle.steps.specs.declared.StepRead.{StepRead}
 use Rattle.steps.proofs.Files.{Ahead, Reads, Stepping, file-reads, step-ahead}
 use Rattle.state.specs.States.{lookedAt, newRun, packedTable, slotOf}
-use Rattle.state.proofs.Table.{looks-at, pastTable, room, table-learns, table-same}
+use Rattle.clauses.proofs.Records.{pastTable}
+use Rattle.state.proofs.Table.{looks-at, room, table-learns, table-same}
 use Rattle.text.specs.Text.{Wrote}
-use Rattle.text.proofs.Text.{and-then, as-text}
+use Rattle.text.proofs.Text.{and-then, as-text, same-long}
 use Rattle.listing.specs.Lines.{acceptedLine, mostLine, refusedLine}
 use Rattle.listing.specs.Listing.{Tried, went, refused, through}
 use Rattle.listing.proofs.Lines.{length-accepted, length-refused}
@@ -70,10 +70,6 @@ pub record SoFar (s d : List ℕ) (n : ℕ) (d′ : List ℕ) (run : Run) (table
   pub wrote : Wrote d 0 lines d′ at
   pub short : at ≤ j * mostLine
   pub on : (v : List ℕ) (e : Answer) → Tried state (j + 1) others v e → Tried (opened says) 1 (says .steps) (lines ++ v) e
-
--- A writer keeps the buffer's length.
-pub same-long : {d d′ w : List ℕ} {i r : ℕ} → Wrote d i w d′ r → length d′ ≡ length d
-same-long {d} {d′} {w} {i} a = ap length (a .left) ∙ length-sets d i w
 
 -- ---- changes that are made in place
 

@@ -9,7 +9,6 @@ use lib.Dec.{T, ltb}
 use lib.ListN.{length, length-append}
 use borrow.Author.Tests.{le-leb, le-ltb, lt-leb, lt-ltb}
 use Rattle.calculus.specs.Clauses as calculus
-use Rattle.clauses.specs.declared.Instanced.{Instanced}
 use Rattle.basis.specs.Atoms.{Possible}
 use Rattle.basis.specs.Limits.{mostLearned}
 use Rattle.basis.specs.Numbers.{whole}

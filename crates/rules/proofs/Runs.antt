@@ -18,7 +18,7 @@ use Rattle.calculus.proofs.Levels.{clause-held}
 use Rattle.calculus.specs.Class.{Limited, withinLimits}
 use Rattle.calculus.specs.Rules.{clauseExists}
 use Rattle.calculus.specs.States.{State, clauseAt, clauses, conflictOf, stands, updated}
-use Rattle.calculus.specs.Trails.{Entry, Trail}
+use Rattle.calculus.specs.Trails.{Trail}
 use Rattle.clauses.proofs.Records.{packed-instanced-says, packed-says}
 use Rattle.clauses.specs.Records.{clauseOf, instancedOf, packed, packedInstanced}
 use Rattle.clauses.specs.declared.Clause.{Clause}

@@ -21,7 +21,7 @@ use Rattle.calculus.specs.Class.{Limited}
 use Rattle.calculus.specs.Clauses.{sameLiteral}
 use Rattle.calculus.specs.Merging.{factored}
 use Rattle.calculus.specs.Rules.{complementInConflict, levelAfterSkip, literalExists, literalInstance, next, withoutLast}
-use Rattle.calculus.specs.States.{Factorize, Grow, Skip, State, conflictOf, stands}
+use Rattle.calculus.specs.States.{Factorize, Grow, Skip, State, conflictOf}
 use Rattle.calculus.specs.Trails.{Entry, Trail, background, foreground, isDecision}
 use Rattle.clauses.proofs.Records.{packed-instanced-says}
 use Rattle.clauses.specs.Records.{instancedOf, packedInstanced}

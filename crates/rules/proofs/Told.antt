@@ -91,7 +91,3 @@ run-more x b (runs.then a i r) j = runs.then a i (run-more x b r j)
 
 pub steps-keep-reached : StepsKeepReached
 steps-keep-reached s x b h j = record { first = h .first; steps = h .steps ++ (x ∷ []); admitted = h .admitted; run = run-more x b (h .run) j }
-
--- The run that a step hands back is that of the state reached.
-pub next-run : {r : Run} {s : State} {x : Step} {a : Stepped} → RunOf r s → (told : Told s x a) → RunOf (a .run) (told .0 .state)
-next-run {s = s} {x = x} R told = record { reached = steps-keep-reached s x (told .0) (R .reached) (told .1); is = ap (λ (q : Stepped). q .run) (told .2) }

@@ -24,7 +24,6 @@ use Rattle.runfile.specs.File.{count, clause, instance, File, argument, 
 use Rattle.runfile.specs.Readers.{Reader, _judged_, _then_, bad, field, give, got, onward, times}
 use Rattle.runfile.specs.Written.{bytesOf, joined, unsigned, written, writtenAtom, writtenClause, writtenHeader, writtenInstance, writtenLiteral, writtenStep}
 use Rattle.calculus.proofs.Admitting.{clause-accepted-exactly}
-use Rattle.calculus.specs.Admitting.{admitted}
 use Rattle.calculus.specs.Checks.{Check, _or_, between}
 use Rattle.calculus.specs.Class.{InClass, Limited, arityOf, properAtom, properLiteral}
 use Rattle.calculus.specs.Clauses.{Clause, arguments}

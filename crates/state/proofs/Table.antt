@@ -23,6 +23,7 @@ use Rattle.calculus.specs.Trails.{Trail}
 use Rattle.calculus.proofs.Answers.{accepted-leads-on, refused-hands-back}
 use Rattle.calculus.proofs.Demands.{run-input}
 use Rattle.clauses.specs.Records.{packed}
+use Rattle.clauses.proofs.Records.{pastTable}
 use Rattle.clauses.specs.declared.Clause.{Clause}
 use Rattle.rules.specs.Answers as rules
 use Rattle.rules.specs.Answers.{IsLast, Looks, RunOf, Told}
@@ -129,10 +130,6 @@ module _ {run : Run} {s : states.State} {table : List Clause} (R : RunOf run s) 
     looks : (x : Step) → Looks s (stepOf x) (getD table (slotOf (lookedAt E x)) blank)
     looks x = by-rule (λ y. Looks s y (getD table (slotOf (lookedAt E x)) blank)) x
         (λ e. named x (rw e)) (λ e. named x (rw e)) (λ e. named x (rw e)) (last x) (λ e. tt) (λ e. tt) (λ e. tt) (λ e. tt) tt
-
--- What a read past the table's end would give
-abbrev pub pastTable : Clause
-pastTable = record { variables = 0; atomcount = 0; literalcount = 0; atoms = []; literals = [] }
 
 -- What stands in the slot of the number looked at is the clause that the step looks at; i is the slot of the last entry.
 pub looks-at : {run : Run} {s : states.State} {table : List Clause} → RunOf run s → table ≡ packedTable (clauses s) → (x : Step) (i c k : ℕ)

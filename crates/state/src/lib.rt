@@ -78,7 +78,7 @@ fn first_arities(predicates: u8, arities: [u8; MOST_PREDICATES]) -> [u8; MOST_PR
 }
 
 // The input clauses, and room for the learned ones
-pub fn with_room(clauses: [Clause; MOST_INPUT]) -> [Clause; MOST_CLAUSES]
+fn with_room(clauses: [Clause; MOST_INPUT]) -> [Clause; MOST_CLAUSES]
     ensures { λ r. ⌜ r ≡ exactly mostClauses (packed calculus.noClause) clauses ⌝ }
 {
     let blank = no_clause();

@@ -9,7 +9,7 @@ use native.Mathlib.Nat.{add-zero, add-suc, suc-add}
 use borrow.Author.Tests.{lt-ltb, le-ltb, ltb-true, ltb-false}
 use lib.Dec.{ltb}
 use lib.ListN.{length, take, set, getD, length-append}
-use lib.Seq.{sets, take-suc, length-take-le}
+use lib.Seq.{sets, length-sets, take-suc, length-take-le}
 use Rattle.text.specs.Text.{digit, decimalIn, decimal, Wrote}
 
 -- ---- decimal digits
@@ -71,6 +71,10 @@ module _ {A : Type 0} where
       ∙ ap (λ (n : ℕ). set (sets d i (take j w)) (i + n) (getD w j z)) (length-take-le j w (omega arith)))
 
 -- ---- writers
+
+-- A writer keeps the buffer's length.
+pub same-long : {d d′ w : List ℕ} {i r : ℕ} → Wrote d i w d′ r → length d′ ≡ length d
+same-long {d} {d′} {w} {i} a = ap length (a .left) ∙ length-sets d i w
 
 -- One writer after another
 pub and-then : {d d₁ d₂ : List ℕ} {i r₁ r₂ : ℕ} {v w : List ℕ} → Wrote d i v d₁ r₁ → Wrote d₁ r₁ w d₂ r₂ → Wrote d i (v ++ w) d₂ r₂

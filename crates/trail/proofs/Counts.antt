@@ -5,7 +5,7 @@ use Prim.Native.Nat.{_<_, _≤_, ℕ}
 use native.Mathlib.Omega.{arith}
 use lib.ListN.{List·getD-eq-default, getD, length, take}
 use lib.Seq.{getD-take, length-take-le, take-all}
-use Rattle.trail.specs.Answers.{Counts}
+use Rattle.trail.specs.Answers.{Counts, CountsOnce}
 
 module _ {A : Type 0} (l : List A) (most n : ℕ) (long : length l ≡ most) where
   pub counted-all : n ≤ most → Counts l most n n
@@ -23,3 +23,6 @@ module _ {A : Type 0} {l : List A} {most n r : ℕ} (C : Counts l most n r) wher
 
   pub counted-past : (j : ℕ) (d : A) → r ≤ j → getD (take n l) j d ≡ d
   counted-past j d h = List·getD-eq-default (take n l) d (omega (arith, counted-length))
+
+pub counts-once : CountsOnce
+counts-once A l most n r q C D = sym (counted-length C) ∙ counted-length D

@@ -12,7 +12,7 @@ use Rattle.lists.proofs.Walks.{allOf-and, allOf-fails}
 use Rattle.lists.specs.Lists.{allOf}
 use Rattle.trail.specs.Answers.{Counts, firstNumber, passes}
 use Rattle.calculus.specs.Clauses.{complement, ground, noLiteral, sameLiteral}
-use Rattle.calculus.specs.Rules.{allFalse, firstFailing, othersFalse}
+use Rattle.calculus.specs.Rules.{firstFailing}
 use Rattle.calculus.specs.Trails.{Trail, onTrail}
 use Rattle.trail.proofs.Walks.{or-true}
 
@@ -59,13 +59,6 @@ module _ (f : Literal → Bool) where
 
   pub its-number : (ls : List Literal) → ¬ (firstNumber f ls ≡ 0) → firstFailing f ls ≡ firstNumber f ls
   its-number ls n = rw (one-fails ls n)
-
--- For Propagate the others must be false, for Conflict all.
-pub others-pass : (g : Literal) (t : Trail) (τ : List ℕ) (ls : List Literal) → allOf (passes true g t τ) ls ≡ othersFalse t τ g ls
-others-pass g t τ ls = refl
-
-pub all-must-pass : (g : Literal) (t : Trail) (τ : List ℕ) (ls : List Literal) → allOf (passes false g t τ) ls ≡ allFalse t τ ls
-all-must-pass g t τ ls = refl
 
 -- ---- the walk
 

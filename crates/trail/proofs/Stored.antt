@@ -1,11 +1,10 @@
 -- A trail stored in an array: what an entry pushed or taken away does to it, and that the record of a trail says that trail.
 use mathlib.Core.Path.{_∙_, _≡_, ap, ap₂, refl, subst, sym}
 use mathlib.Core.List.{List, [], _++_, _∷_, map, map-append, reverse, reverse-cons, reverseAux-eq}
-use mathlib.Core.Bool.{Bool, cond, false, true}
+use mathlib.Core.Bool.{false, true}
 use Prim.Native.Nat.{_+_, _<_, _≤_, pred, suc, zero, ℕ}
 use native.Mathlib.Numerals.{add-one}
 use native.Mathlib.Omega.{arith}
-use lib.Dec.{leb}
 use lib.ListN.{getD, length, length-map, length-reverse, length-take, set, take}
 use lib.Seq.{getD-set-other, getD-set-same, length-take-le, take-all, take-suc}
 use borrow.Author.Tests.{le-leb, lt-leb}
@@ -17,11 +16,9 @@ use Rattle.trail.specs.Answers.{Grew}
 use Rattle.trail.specs.Entries.{AllShort, Held, Recorded, Short, Stored, entryOf, noEntry, packedEntry, packedTrail, pastEnd, trailOf}
 use Rattle.trail.specs.declared.Entry.{Entry}
 use Rattle.trail.specs.declared.Grown.{Grown}
-use Rattle.calculus.proofs.Trails.{push-ind}
-use Rattle.calculus.specs.Clauses.{Clause, ground, groundAtoms, noLiteral}
-use Rattle.calculus.specs.Rules.{propagatedTrail, withoutLast}
+use Rattle.calculus.specs.Rules.{withoutLast}
 use Rattle.calculus.specs.Trails as calculus
-use Rattle.calculus.specs.Trails.{Trail, background, cut, decided, decisions, foreground, propagated}
+use Rattle.calculus.specs.Trails.{Trail, background, decided, foreground, propagated}
 
 -- ---- one entry
 
@@ -150,25 +147,6 @@ pub held-short : (es : List Entry) (n k : ℕ) → Held es n → k ≤ n → All
 held-short es n zero H h = tt
 held-short es n (suc k) H h = (subst (λ a. Short (entryOf (getD a k pastEnd))) (sym (H .packed)) (entry-short (trailOf es n) k (omega (arith, H .few))), held-short es n k H (omega arith))
 
-pub stored-short : {es : List Entry} {n : ℕ} {t : Trail} → Stored es n t → AllShort t
-stored-short {es} {n} S = subst AllShort (S .says) (held-short es n n (stored-held S) (omega arith))
-
--- The trails that the rules name stay short.
-pub propagated-short : (C : Clause) (i c l : ℕ) (τ : List ℕ) (t : Trail) → length τ ≤ mostVariables → AllShort t → AllShort (propagatedTrail C i τ (propagated c l τ) t)
-propagated-short C i c l τ t h s = push-ind AllShort (λ a u k. (tt, k)) (groundAtoms τ (C .atoms)) (foreground (ground τ (getD (C .literals) i noLiteral)) (propagated c l τ) ∷ t) (h, s)
-
-pub without-last-short : (t : Trail) → AllShort t → AllShort (withoutLast t)
-without-last-short [] s = tt
-without-last-short (x ∷ t) s = s .1
-
-pub cut-short : (i : ℕ) (t : Trail) → AllShort t → AllShort (cut i t)
-cut-short i [] s = tt
-cut-short i (x ∷ t) s = go (leb (decisions (x ∷ t)) i) (cut-short i t (s .1))
-  where
-    go : (b : Bool) → AllShort (cut i t) → AllShort (cond b (x ∷ t) (cut i t))
-    go true k = s
-    go false k = k
-
 -- ---- what grows
 
 pub grew-none : {g : Grown} (t : Trail) → g .fits ≡ false → Stored (g .trail) (g .length) [] → mostEntries < length t → Grew g t
@@ -176,6 +154,3 @@ grew-none t e S h = record { fits = e ∙ sym (lt-leb (length t) mostEntries h);
 
 pub grew-all : {es : List Entry} {n : ℕ} {t : Trail} → Stored es n t → Grew (record { fits = true; length = n; trail = es }) t
 grew-all {es} {n} {t} S = record { fits = sym (le-leb (length t) mostEntries (omega (arith, stored-length S, S .few))); holds = S }
-
-pub grew-fits : {g : Grown} {t : Trail} → Grew g t → g .fits ≡ true → Stored (g .trail) (g .length) t
-grew-fits {g} {t} G e = subst (λ b. Stored (g .trail) (g .length) (cond b t [])) e (G .holds)

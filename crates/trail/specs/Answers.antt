@@ -27,6 +27,10 @@ pub record Counts {A : Type 0} (l : List A) (most n r : ℕ) : Type 0 where
   pub few : r ≤ most
   pub same : take r l ≡ take n l
 
+-- Such a number is unique. Proved in proofs/Counts.antt.
+abbrev pub CountsOnce : Type 1
+CountsOnce = (A : Type 0) (l : List A) (most n r q : ℕ) → Counts l most n r → Counts l most n q → r ≡ q
+
 -- The entry is the literal or its complement.
 abbrev pub isAbout : Literal → Entry → Bool
 isAbout l e = isLiteral l e || isLiteral (complement l) e

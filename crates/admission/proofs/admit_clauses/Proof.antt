@@ -6,7 +6,8 @@ use Prim.Native.Nat.{_≤_, _-_}
 use native.Mathlib.Omega.{arith}
 use lib.ListN.{length, getD, set, take}
 use borrow.Author.Needs.{needs}
-use Rattle.admission.proofs.Tables.{blank, hollow, noRefusal, answer-clause, table-refused, table-turn, table-accepted}
+use Rattle.clauses.proofs.Records.{pastTable}
+use Rattle.admission.proofs.Tables.{blank, noRefusal, answer-clause, table-refused, table-turn, table-accepted}
 use Rattle.basis.specs.Limits.{mostInput}
 use Rattle.lists.specs.Arrays.{exactly}
 use Rattle.lists.proofs.Arrays.{mapped-turn}
@@ -73,8 +74,8 @@ loop-again c =
       omega arith,
       s .inv .1,
       table-turn A (a .count) (a .t4) (omega arith) (s .j) (omega arith) (s .inv .2) (c .before .before .before .admit-clause .ensures) (c .before .if1 .left),
-      ap₂ (λ (l : List Clause) (x : Clause). set l (s .j) x) (s .inv .3) (answer-clause A (getD (a .t4) (s .j) hollow) (c .before .before .before .admit-clause .ensures) (c .before .if1 .left))
-          ∙ mapped-turn (λ c. packed (offered A c)) 48 blank hollow (a .t4) (s .j) (omega arith) (omega arith),
+      ap₂ (λ (l : List Clause) (x : Clause). set l (s .j) x) (s .inv .3) (answer-clause A (getD (a .t4) (s .j) pastTable) (c .before .before .before .admit-clause .ensures) (c .before .if1 .left))
+          ∙ mapped-turn (λ c. packed (offered A c)) 48 blank pastTable (a .t4) (s .j) (omega arith) (omega arith),
     )
 
 returns-2 : tie.Need-returns-2 Inv-loop μ-loop

@@ -7,7 +7,8 @@ use native.Mathlib.Omega.{arith}
 use denote.Ref.{now}
 use Rattle.rules.specs.declared.Change.the-variants.{Decided, Skipped, Replaced, Grown}
 use Rattle.rules.proofs.Runs.{kept-small}
-use Rattle.judging.proofs.Running.{SoFar, decision-fits, done, effect-done, grown, handed, kept, line-fits, same-long, seen, skipped, slot-free, start, stop, stop-made, turn-learns, turn-made, turn-same}
+use Rattle.judging.proofs.Running.{SoFar, decision-fits, done, effect-done, grown, handed, kept, line-fits, seen, skipped, slot-free, start, stop, stop-made, turn-learns, turn-made, turn-same}
+use Rattle.text.proofs.Text.{same-long}
 use Rattle.judging.proofs.run_steps.Statement.{statement}
 use Rattle.judging.proofs.run_steps.Tie as tie
 

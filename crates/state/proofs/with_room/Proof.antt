@@ -11,7 +11,7 @@ use Rattle.lists.proofs.Arrays.{copied-turn, exactly-none, getD-any}
 use Rattle.calculus.specs.Clauses.{noClause}
 use Rattle.clauses.specs.Records.{packed}
 use Rattle.clauses.specs.declared.Clause.{Clause}
-use Rattle.state.proofs.Table.{pastTable}
+use Rattle.clauses.proofs.Records.{pastTable}
 use Rattle.state.proofs.with_room.Statement.{statement}
 use Rattle.state.proofs.with_room.Tie as tie
 
