@@ -69,6 +69,7 @@ use trail::literal_instance;
 use trail::literals_of;
 use trail::no_entry;
 use trail::other_instances;
+use trail::place_of;
 use trail::possible;
 use trail::undefined;
 
@@ -241,16 +242,6 @@ fn naming_refusal(named: bool, free: bool) -> u8
         return ALREADY_DEFINED;
     }
     0
-}
-
-// The place of a number, from 0
-fn place_of(l: u8) -> usize
-    ensures { λ r. ⌜ r ≡ l - 1 ⌝ }
-{
-    if l == 0 {
-        return 0;
-    }
-    l as usize - 1
 }
 
 // ---- what the rules look at

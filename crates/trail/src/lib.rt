@@ -11,7 +11,7 @@ ghost use Rattle.lists.specs.Arrays.{exactly};
 ghost use Rattle.lists.specs.Lists.{anyOf};
 ghost use Rattle.calculus.specs.Clauses.{noLiteral, sameLiteral, groundAtoms};
 ghost use Rattle.calculus.specs.Clauses as calculus;
-ghost use Rattle.calculus.specs.Trails.{onTrail, atomOnTrail, isLiteral, isAtom, isDecision, levelOf, largestLevel, atomsOf, foreground, background, propagated, decided};
+ghost use Rattle.calculus.specs.Trails.{isLiteral, isAtom, isDecision, levelOf, largestLevel, atomsOf, foreground, background, propagated, decided};
 ghost use Rattle.calculus.specs.Trails as trails;
 ghost use Rattle.calculus.specs.Rules.{otherInstances, backLevel, propagatedTrail};
 ghost use Rattle.clauses.specs.Records.{clauseOf, instancedOf};
@@ -158,38 +158,6 @@ fn is_about(e: Entry, l: Literal) -> bool
 
 // ---- what is on the trail
 
-pub fn on_trail(trail: [Entry; MOST_ENTRIES], length: u8, l: Literal) -> bool
-    requires { ⌜ length ≤ mostEntries ⌝ }
-    ensures { λ r. ⌜ r ≡ onTrail l (trailOf trail length) ⌝ }
-{
-    let n = length as usize;
-    let mut k = 0;
-    while k < n {
-        let e = trail[k];
-        if is_literal(e, l) {
-            return true;
-        }
-        k += 1;
-    }
-    false
-}
-
-pub fn atom_on_trail(trail: [Entry; MOST_ENTRIES], length: u8, a: Atom) -> bool
-    requires { ⌜ length ≤ mostEntries ⌝ }
-    ensures { λ r. ⌜ r ≡ atomOnTrail a (trailOf trail length) ⌝ }
-{
-    let n = length as usize;
-    let mut k = 0;
-    while k < n {
-        let e = trail[k];
-        if is_atom(e, a) {
-            return true;
-        }
-        k += 1;
-    }
-    false
-}
-
 // "A literal is undefined if neither it nor its complement is on the trail."
 pub fn undefined(trail: [Entry; MOST_ENTRIES], length: u8, l: Literal) -> bool
     requires { ⌜ length ≤ mostEntries ⌝ }
@@ -232,7 +200,7 @@ pub fn atoms_of(c: Clause) -> usize
 }
 
 // The place of a number, from 0
-fn place_of(l: u8) -> usize
+pub fn place_of(l: u8) -> usize
     ensures { λ r. ⌜ r ≡ l - 1 ⌝ }
 {
     if l == 0 {
