@@ -78,9 +78,7 @@ fn near(rule: &'static str, entries: usize) -> Near {
         "decide" => (trail(entries - 2), vec![decide(126), decide(127)]),
         "skip" => ([trail(entries), vec![conflict]].concat(), vec![Step::Skip; 8]),
         "resolve" => (denied_often(entries), vec![Step::Resolve { literal: 1 }; 8]),
-        "factorize" => {
-            (denied_often(entries), vec![Step::Factorize { first: 1, second: 2 }; 7])
-        }
+        "factorize" => (denied_often(entries), vec![Step::Factorize { first: 1, second: 2 }; 7]),
         // The first of them empties the trail.
         "grow" => {
             constants = 10;
