@@ -2,7 +2,7 @@
 use mathlib.Core.Path.{_∙_, _≡_, ap, refl, sym}
 use mathlib.Core.List.{List, [], _++_, _∷_}
 use mathlib.Core.Bool.{false}
-use Prim.Native.Nat.{_+_, _<_, ℕ}
+use Prim.Native.Nat.{_+_, _-_, _<_, _≤_, suc, zero, ℕ}
 use native.Mathlib.Numerals.{add-one}
 use native.Mathlib.Omega.{arith}
 use lib.Dec.{eqb}
@@ -176,3 +176,14 @@ module _ {A : Type 0} where
 
 pub ends-none : {A : Type 0} (s : List ℕ) (f : Reader A) (c : Cursor) → c ≡ reached (after c (times 0 f s))
 ends-none s f c = reached-of c [] (times-none s f c)
+
+-- A refusal ends the readings that follow it.
+pub ends-refused : {A : Type 0} (s : List ℕ) (f : Reader A) (c₀ c : Cursor) (j n q p : ℕ) → c ≡ C.Refused q p → j ≤ n → c ≡ reached (after c₀ (times j f s)) → c ≡ reached (after c₀ (times n f s))
+ends-refused s f c₀ c j n q p r h e = let k : j + (n - j) ≡ n = omega arith in rw k at (go (n - j))
+  where
+    stays : c ≡ reached (after c (f s))
+    stays = rw r
+
+    go : (k : ℕ) → c ≡ reached (after c₀ (times (j + k) f s))
+    go zero = let k : j + 0 ≡ j = omega arith in rw k e
+    go (suc k) = let m : j + suc k ≡ j + k + 1 = omega arith in rw m (ends-more s f c₀ c c (j + k) (go k) stays)

@@ -280,6 +280,9 @@ fn clauses_end(s: &[u8], at: Cursor, n: u8, ps: Predicates) -> Cursor
     while j < n {
         let read = clause_at(s, past, ps);
         let next = read.at;
+        if let Cursor::Refused { number, place } = next {
+            return next;
+        }
         past = next;
         j += 1;
     }

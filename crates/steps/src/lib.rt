@@ -286,6 +286,9 @@ fn steps_end(s: &[u8], at: Cursor, n: u32) -> Cursor
     while j < n {
         let read = step_from(s, past);
         let next = read.at;
+        if let Cursor::Refused { number, place } = next {
+            return next;
+        }
         past = next;
         j += 1;
     }

@@ -1,14 +1,14 @@
 -- `header::clauses_end` meets its contract.
 use borrow.Author.Needs.{needs}
-use mathlib.Core.Path.{_≡_}
-use Prim.Native.Nat.{_≤_, _-_}
+use mathlib.Core.Path.{_≡_, sym, _∙_}
+use Prim.Native.Nat.{_+_, _≤_, _-_}
 use native.Mathlib.Omega.{arith}
 use denote.Ref.{now}
 use Rattle.clauses.specs.Records.{clauseOf}
 use Rattle.runfile.specs.Readers.{times}
 use Rattle.runfile.specs.File.{clause}
 use Rattle.fields.specs.Views.{after, reached}
-use Rattle.fields.proofs.Laws.{ends-none, ends-more, reached-of}
+use Rattle.fields.proofs.Laws.{ends-none, ends-more, ends-refused, reached-of}
 use Rattle.header.specs.Records.{arities}
 use Rattle.header.proofs.clauses_end.Statement.{statement}
 use Rattle.header.proofs.clauses_end.Tie as tie
@@ -25,6 +25,15 @@ loop-holds c = (omega arith, ends-none (now (c .before .args .s)) (clause (ariti
 clause-at-requires : tie.Need-clause-at-requires Inv-loop μ-loop
 clause-at-requires c κs = search needs
 
+enum-known-next : tie.Need-enum-known-next Inv-loop μ-loop
+enum-known-next c = search needs
+
+returns : tie.Need-returns Inv-loop μ-loop
+returns c = let g = c .before .next .given in sym (g .1) ∙ ends-refused (now (c .before .before .before .before .before .before .before .args .s)) (clause (arities (c .before .before .before .before .before .before .before .args .ps))) (c .before .before .before .before .before .before .before .args .at) (c .before .before .before .clause-at .result .at) (c .before .before .before .before .before .loop .j + 1) (c .before .before .before .before .before .before .before .args .n) (g .0 .0) (g .0 .1 .0) (g .1) (omega arith) (ends-more (now (c .before .before .before .before .before .before .before .args .s)) (clause (arities (c .before .before .before .before .before .before .before .args .ps))) (c .before .before .before .before .before .before .before .args .at) (c .before .before .before .before .before .loop .past) (c .before .before .before .clause-at .result .at) (c .before .before .before .before .before .loop .j) (c .before .before .before .before .before .loop .inv .1) (reached-of (c .before .before .before .clause-at .result .at) (clauseOf (c .before .before .before .clause-at .result .clause)) (c .before .before .before .clause-at .ensures .0)))
+
+enum-told : tie.Need-enum-told Inv-loop μ-loop
+enum-told c = search needs
+
 add-j : tie.Need-add-j Inv-loop μ-loop
 add-j c = search needs
 
@@ -32,12 +41,12 @@ loop-less : tie.Need-loop-less Inv-loop μ-loop
 loop-less c = search needs
 
 loop-again : tie.Need-loop-again Inv-loop μ-loop
-loop-again c = (omega arith, ends-more (now (c .before .before .before .before .args .s)) (clause (arities (c .before .before .before .before .args .ps))) (c .before .before .before .before .args .at) (c .before .before .loop .past) (c .clause-at .result .at) (c .before .before .loop .j) (c .before .before .loop .inv .1) (reached-of (c .clause-at .result .at) (clauseOf (c .clause-at .result .clause)) (c .clause-at .ensures .0)))
+loop-again c = (omega arith, ends-more (now (c .before .before .before .before .before .before .args .s)) (clause (arities (c .before .before .before .before .before .before .args .ps))) (c .before .before .before .before .before .before .args .at) (c .before .before .before .before .loop .past) (c .before .before .clause-at .result .at) (c .before .before .before .before .loop .j) (c .before .before .before .before .loop .inv .1) (reached-of (c .before .before .clause-at .result .at) (clauseOf (c .before .before .clause-at .result .clause)) (c .before .before .clause-at .ensures .0)))
 
-returns : tie.Need-returns Inv-loop μ-loop
-returns c = let e : c .before .loop .j ≡ c .before .before .before .args .n = omega arith in rw e at (c .before .loop .inv .1)
+returns-2 : tie.Need-returns-2 Inv-loop μ-loop
+returns-2 c = let e : c .before .loop .j ≡ c .before .before .before .args .n = omega arith in rw e at (c .before .loop .inv .1)
 
 pub clauses-end-spec : {M : Type 1} → statement M
 clauses-end-spec =
     tie.close
-    (tie.spec Inv-loop μ-loop loop-holds clause-at-requires add-j loop-less loop-again returns)
+    (tie.spec Inv-loop μ-loop loop-holds clause-at-requires enum-known-next returns enum-told add-j loop-less loop-again returns-2)

@@ -1,13 +1,13 @@
 -- `steps::steps_end` meets its contract.
 use borrow.Author.Needs.{needs}
-use mathlib.Core.Path.{_≡_}
-use Prim.Native.Nat.{_≤_, _-_}
+use mathlib.Core.Path.{_≡_, sym, _∙_}
+use Prim.Native.Nat.{_+_, _≤_, _-_}
 use native.Mathlib.Omega.{arith}
 use denote.Ref.{now}
 use Rattle.runfile.specs.Readers.{times}
 use Rattle.runfile.specs.File.{step}
 use Rattle.fields.specs.Views.{after, reached}
-use Rattle.fields.proofs.Laws.{ends-none, ends-more}
+use Rattle.fields.proofs.Laws.{ends-none, ends-more, ends-refused}
 use Rattle.steps.proofs.Parts.{step-ends}
 use Rattle.steps.proofs.steps_end.Statement.{statement}
 use Rattle.steps.proofs.steps_end.Tie as tie
@@ -24,6 +24,15 @@ loop-holds c = (omega arith, ends-none (now (c .before .args .s)) step (c .befor
 step-from-requires : tie.Need-step-from-requires Inv-loop μ-loop
 step-from-requires c κs = search needs
 
+enum-known-next : tie.Need-enum-known-next Inv-loop μ-loop
+enum-known-next c = search needs
+
+returns : tie.Need-returns Inv-loop μ-loop
+returns c = let g = c .before .next .given in sym (g .1) ∙ ends-refused (now (c .before .before .before .before .before .before .before .args .s)) step (c .before .before .before .before .before .before .before .args .at) (c .before .before .before .step-from .result .at) (c .before .before .before .before .before .loop .j + 1) (c .before .before .before .before .before .before .before .args .n) (g .0 .0) (g .0 .1 .0) (g .1) (omega arith) (ends-more (now (c .before .before .before .before .before .before .before .args .s)) step (c .before .before .before .before .before .before .before .args .at) (c .before .before .before .before .before .loop .past) (c .before .before .before .step-from .result .at) (c .before .before .before .before .before .loop .j) (c .before .before .before .before .before .loop .inv .1) (step-ends (now (c .before .before .before .before .before .before .before .args .s)) (c .before .before .before .before .before .loop .past) (c .before .before .before .step-from .result .at) (c .before .before .before .step-from .result .step) (c .before .before .before .step-from .ensures)))
+
+enum-told : tie.Need-enum-told Inv-loop μ-loop
+enum-told c = search needs
+
 add-j : tie.Need-add-j Inv-loop μ-loop
 add-j c = search needs
 
@@ -31,12 +40,12 @@ loop-less : tie.Need-loop-less Inv-loop μ-loop
 loop-less c = search needs
 
 loop-again : tie.Need-loop-again Inv-loop μ-loop
-loop-again c = (omega arith, ends-more (now (c .before .before .before .before .args .s)) step (c .before .before .before .before .args .at) (c .before .before .loop .past) (c .step-from .result .at) (c .before .before .loop .j) (c .before .before .loop .inv .1) (step-ends (now (c .before .before .before .before .args .s)) (c .before .before .loop .past) (c .step-from .result .at) (c .step-from .result .step) (c .step-from .ensures)))
+loop-again c = (omega arith, ends-more (now (c .before .before .before .before .before .before .args .s)) step (c .before .before .before .before .before .before .args .at) (c .before .before .before .before .loop .past) (c .before .before .step-from .result .at) (c .before .before .before .before .loop .j) (c .before .before .before .before .loop .inv .1) (step-ends (now (c .before .before .before .before .before .before .args .s)) (c .before .before .before .before .loop .past) (c .before .before .step-from .result .at) (c .before .before .step-from .result .step) (c .before .before .step-from .ensures)))
 
-returns : tie.Need-returns Inv-loop μ-loop
-returns c = let e : c .before .loop .j ≡ c .before .before .before .args .n = omega arith in rw e at (c .before .loop .inv .1)
+returns-2 : tie.Need-returns-2 Inv-loop μ-loop
+returns-2 c = let e : c .before .loop .j ≡ c .before .before .before .args .n = omega arith in rw e at (c .before .loop .inv .1)
 
 pub steps-end-spec : {M : Type 1} → statement M
 steps-end-spec =
     tie.close
-    (tie.spec Inv-loop μ-loop loop-holds step-from-requires add-j loop-less loop-again returns)
+    (tie.spec Inv-loop μ-loop loop-holds step-from-requires enum-known-next returns enum-told add-j loop-less loop-again returns-2)
