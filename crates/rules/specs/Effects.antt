@@ -17,7 +17,7 @@ use Rattle.clauses.specs.declared.Instanced.{Instanced}
 use Rattle.trail.specs.Entries.{noEntry, pastEnd, packedTrail, trailOf}
 use Rattle.trail.specs.declared.Entry.{Entry}
 use Rattle.rules.specs.Answers.{Kept, Handed, Answered}
-use Rattle.rules.specs.Records.{stepOf}
+use Rattle.rules.specs.Records.{remade, stepOf}
 use Rattle.rules.specs.declared.Effect.{Effect}
 use Rattle.rules.specs.declared.Change.{Change}
 use Rattle.rules.specs.declared.Change.the-variants.{Whole, Refused, Decided, Skipped, Replaced, Grown}
@@ -34,9 +34,9 @@ isFree es n k l g τ = undefined (trailOf es n) (decidedLiteral (clauseOf k) (l 
 abbrev pub lastOf : Run → Entry
 lastOf r = getD (r .trail) (r .length - 1) pastEnd
 
--- The run without its trail, but for the last entry
-abbrev pub topOf : Run → Bool → Top
-topOf r b = record {
+-- The run without its trail, but for an entry
+abbrev pub topWith : Run → Entry → Bool → Top
+topWith r e b = record {
   constants = r .constants;
   input = r .input;
   learned = r .learned;
@@ -44,9 +44,13 @@ topOf r b = record {
   length = r .length;
   stands = r .stands;
   free = b;
-  last = lastOf r;
+  last = e;
   conflict = r .conflict;
 }
+
+-- .. the last one
+abbrev pub topOf : Run → Bool → Top
+topOf r b = topWith r (lastOf r) b
 
 -- .. as a step looks at it
 abbrev pub topFor : Run → Clause → Step → Top
@@ -60,46 +64,10 @@ changing t c = record { change = c; entry = t .last; conflict = t .conflict }
 abbrev pub made : Run → Change → Entry → Instanced → Run
 made r Whole e n = r
 made r (Refused m) e n = r
-made r Decided e n = record {
-  constants = r .constants;
-  input = r .input;
-  learned = r .learned;
-  level = r .level + 1;
-  length = r .length + 1;
-  stands = r .stands;
-  trail = set (r .trail) (r .length) e;
-  conflict = r .conflict;
-}
-made r (Skipped k) e n = record {
-  constants = r .constants;
-  input = r .input;
-  learned = r .learned;
-  level = k;
-  length = r .length - 1;
-  stands = r .stands;
-  trail = set (r .trail) (r .length - 1) noEntry;
-  conflict = r .conflict;
-}
-made r Replaced e n = record {
-  constants = r .constants;
-  input = r .input;
-  learned = r .learned;
-  level = r .level;
-  length = r .length;
-  stands = r .stands;
-  trail = r .trail;
-  conflict = n;
-}
-made r (Grown m) e n = record {
-  constants = m;
-  input = r .input;
-  learned = r .learned;
-  level = 0;
-  length = 0;
-  stands = r .stands;
-  trail = packedTrail [];
-  conflict = r .conflict;
-}
+made r Decided e n = remade r (r .constants) (r .level + 1) (r .length + 1) (set (r .trail) (r .length) e) (r .conflict)
+made r (Skipped k) e n = remade r (r .constants) k (r .length - 1) (set (r .trail) (r .length - 1) noEntry) (r .conflict)
+made r Replaced e n = remade r (r .constants) (r .level) (r .length) (r .trail) n
+made r (Grown m) e n = remade r m 0 0 (packedTrail []) (r .conflict)
 
 -- The number that a change answers
 abbrev pub numberOf : Change → ℕ

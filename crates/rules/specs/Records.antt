@@ -10,7 +10,9 @@ use Rattle.calculus.specs.States as calculus
 use Rattle.calculus.specs.States.{State, conflictOf}
 use Rattle.calculus.specs.Rules.{Answer}
 use Rattle.clauses.specs.Records.{packedInstanced}
+use Rattle.clauses.specs.declared.Instanced.{Instanced}
 use Rattle.trail.specs.Entries.{packedTrail}
+use Rattle.trail.specs.declared.Entry.{Entry}
 use Rattle.trail.specs.declared.Grown.{Grown}
 use Rattle.trail.specs.declared.Kind.{Kind}
 use Rattle.trail.specs.declared.Kind.the-variants.{Background, Propagated, Decided}
@@ -34,18 +36,22 @@ packedRun s = record {
 abbrev pub packedAnswer : Answer → Stepped
 packedAnswer a = record { run = packedRun (a .state); number = a .number; place = a .place }
 
--- The run with its trail grown, at level k
-abbrev pub withTrail : Run → Grown → ℕ → Run
-withTrail r w k = record {
-  constants = r .constants;
+-- The run with other constants, level, trail and conflict
+abbrev pub remade : Run → (constants level length : ℕ) → List Entry → Instanced → Run
+remade r m k n t f = record {
+  constants = m;
   input = r .input;
   learned = r .learned;
   level = k;
-  length = w .length;
+  length = n;
   stands = r .stands;
-  trail = w .trail;
-  conflict = r .conflict;
+  trail = t;
+  conflict = f;
 }
+
+-- .. with its trail grown, at level k
+abbrev pub withTrail : Run → Grown → ℕ → Run
+withTrail r w k = remade r (r .constants) k (w .length) (w .trail) (r .conflict)
 
 -- .. and with one clause more learned, no conflict standing
 abbrev pub learnt : Run → Grown → ℕ → Run
