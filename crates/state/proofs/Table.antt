@@ -45,44 +45,25 @@ use Rattle.state.specs.States.{StateOf, lookedAt, packedAnswer, packedTa
 use Rattle.state.specs.declared.Answered.{Answered}
 use Rattle.state.specs.declared.State.{State}
 
+-- A number is k, or it is not.
+is : {Q : Type 0} (n k : ℕ) → (n ≡ k → Q) → (¬ (n ≡ k) → Q) → Q
+is n k yes-then no-then = elim (ℕ-discrete n k) [ yes e ↦ yes-then e | no e ↦ no-then e ]
+
 -- What holds of every rule's step holds of a step record.
 by-rule : (P : states.Step → Type 0) (x : Step)
     → (x .rule ≡ 1 → P (Propagate (x .clause) (x .literal) (records.instanceOf x))) → (x .rule ≡ 2 → P (Decide (x .clause) (x .literal) (x .sign) (records.instanceOf x)))
     → (x .rule ≡ 3 → P (Conflict (x .clause) (records.instanceOf x))) → (x .rule ≡ 4 → P (Resolve (x .literal))) → (x .rule ≡ 5 → P (Factorize (x .literal) (x .other)))
     → (x .rule ≡ 6 → P Skip) → (x .rule ≡ 7 → P (Backtrack (x .literal))) → (x .rule ≡ 8 → P (Grow (x .amount))) → P (Unknown (x .rule)) → P (stepOf x)
-by-rule P x h1 h2 h3 h4 h5 h6 h7 h8 h = elim (ℕ-discrete (x .rule) 1) [
-  | yes e ↦ subst P (sym (propagate-step x e)) (h1 e)
-  | no n1 ↦
-      elim (ℕ-discrete (x .rule) 2) [
-        | yes e ↦ subst P (sym (decide-step x e)) (h2 e)
-        | no n2 ↦
-            elim (ℕ-discrete (x .rule) 3) [
-              | yes e ↦ subst P (sym (conflict-step x e)) (h3 e)
-              | no n3 ↦
-                  elim (ℕ-discrete (x .rule) 4) [
-                    | yes e ↦ subst P (sym (resolve-step x e)) (h4 e)
-                    | no n4 ↦
-                        elim (ℕ-discrete (x .rule) 5) [
-                          | yes e ↦ subst P (sym (factorize-step x e)) (h5 e)
-                          | no n5 ↦
-                              elim (ℕ-discrete (x .rule) 6) [
-                                | yes e ↦ subst P (sym (skip-step x e)) (h6 e)
-                                | no n6 ↦
-                                    elim (ℕ-discrete (x .rule) 7) [
-                                      | yes e ↦ subst P (sym (backtrack-step x e)) (h7 e)
-                                      | no n7 ↦
-                                          elim (ℕ-discrete (x .rule) 8) [
-                                            | yes e ↦ subst P (sym (grow-step x e)) (h8 e)
-                                            | no n8 ↦
-                                                subst P (sym (unknown-step x n1 n2 n3 n4 n5 n6 n7 n8)) h
-                                          ]
-                                    ]
-                              ]
-                        ]
-                  ]
-            ]
-      ]
-]
+by-rule P x h1 h2 h3 h4 h5 h6 h7 h8 h =
+    is (x .rule) 1 (λ e. subst P (sym (propagate-step x e)) (h1 e)) (λ n1.
+    is (x .rule) 2 (λ e. subst P (sym (decide-step x e)) (h2 e)) (λ n2.
+    is (x .rule) 3 (λ e. subst P (sym (conflict-step x e)) (h3 e)) (λ n3.
+    is (x .rule) 4 (λ e. subst P (sym (resolve-step x e)) (h4 e)) (λ n4.
+    is (x .rule) 5 (λ e. subst P (sym (factorize-step x e)) (h5 e)) (λ n5.
+    is (x .rule) 6 (λ e. subst P (sym (skip-step x e)) (h6 e)) (λ n6.
+    is (x .rule) 7 (λ e. subst P (sym (backtrack-step x e)) (h7 e)) (λ n7.
+    is (x .rule) 8 (λ e. subst P (sym (grow-step x e)) (h8 e)) (λ n8.
+    subst P (sym (unknown-step x n1 n2 n3 n4 n5 n6 n7 n8)) h))))))))
 
 -- ---- reading the table
 
