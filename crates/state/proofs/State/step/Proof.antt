@@ -30,16 +30,16 @@ step-requires : tie.Need-step-requires
 step-requires c κs = (c .before .before .before .before .before .before .pre .0, run-of (c .before .before .before .before .before .before .pre .1), looks-at (run-of (c .before .before .before .before .before .before .pre .1)) (table-is (c .before .before .before .before .before .before .pre .1)) (c .before .before .before .before .before .before .args .x) _ _ _ (c .before .before .before .before .last-slot .ensures) (c .before .before .looked-at .ensures) (c .before .slot-of .ensures .0))
 
 cast-at : tie.Need-cast-at
-cast-at c = omega (arith, kept-small (c .before .before .before .before .before .before .before .before .before .before .before .before .before .before .pre .0, run-of (c .before .before .before .before .before .before .before .before .before .before .before .before .before .before .pre .1)) .few-input)
+cast-at c = let h = kept-small (c .before .before .before .before .before .before .before .before .before .before .before .before .before .before .pre .0, run-of (c .before .before .before .before .before .before .before .before .before .before .before .before .before .before .pre .1)) in omega (arith, h .few-input, h .few-learned)
 
 cast-at-2 : tie.Need-cast-at-2
-cast-at-2 c = omega (arith, kept-small (c .before .before .before .before .before .before .before .before .before .before .before .before .before .before .pre .0, run-of (c .before .before .before .before .before .before .before .before .before .before .before .before .before .before .pre .1)) .few-learned)
+cast-at-2 c = let h = kept-small (c .before .before .before .before .before .before .before .before .before .before .before .before .before .before .pre .0, run-of (c .before .before .before .before .before .before .before .before .before .before .before .before .before .before .pre .1)) in omega (arith, h .few-input, h .few-learned)
 
 add-at : tie.Need-add-at
-add-at c = omega (arith, kept-small (c .before .before .before .before .before .before .before .before .before .before .before .before .before .before .pre .0, run-of (c .before .before .before .before .before .before .before .before .before .before .before .before .before .before .pre .1)) .few-input, kept-small (c .before .before .before .before .before .before .before .before .before .before .before .before .before .before .pre .0, run-of (c .before .before .before .before .before .before .before .before .before .before .before .before .before .before .pre .1)) .few-learned)
+add-at c = let h = kept-small (c .before .before .before .before .before .before .before .before .before .before .before .before .before .before .pre .0, run-of (c .before .before .before .before .before .before .before .before .before .before .before .before .before .before .pre .1)) in omega (arith, h .few-input, h .few-learned)
 
 mul-learned : tie.Need-mul-learned
-mul-learned c = omega (arith, kept-small (c .before .before .before .before .before .before .before .before .before .before .before .before .before .before .pre .0, run-of (c .before .before .before .before .before .before .before .before .before .before .before .before .before .before .pre .1)) .few-input, kept-small (c .before .before .before .before .before .before .before .before .before .before .before .before .before .before .pre .0, run-of (c .before .before .before .before .before .before .before .before .before .before .before .before .before .before .pre .1)) .few-learned)
+mul-learned c = let h = kept-small (c .before .before .before .before .before .before .before .before .before .before .before .before .before .before .pre .0, run-of (c .before .before .before .before .before .before .before .before .before .before .before .before .before .before .pre .1)) in omega (arith, h .few-input, h .few-learned)
 
 element-set-from-learned : tie.Need-element-set-from-learned
 element-set-from-learned c = room (c .before .before .before .before .before .before .before .before .before .before .before .before .before .before .args .x) _ (told-of (c .before .before .before .before .before .before .before .before .before .before .before .before .before .before .pre .1) (c .before .before .before .before .before .before .before .before .before .before .before .before .before .before .args .x) _ _ _ _ (c .before .before .before .before .before .before .before .before .before .before .before .before .last-slot .ensures) (c .before .before .before .before .before .before .before .before .before .before .looked-at .ensures) (c .before .before .before .before .before .before .before .before .before .slot-of .ensures .0) (c .before .before .before .before .before .before .before .step .ensures)) (c .before .before .before .before .if1 .taken) (c .before .before .if2 .taken) (run-of (c .before .before .before .before .before .before .before .before .before .before .before .before .before .before .pre .1))
