@@ -1,5 +1,6 @@
 -- What was written is the file's text; and the answer is unique.
-use mathlib.Core.Path.{_≡_, refl, subst, sym, ap, _∙_}
+use mathlib.Core.Bool.{Bool, true, false, true≢false}
+use mathlib.Core.Path.{_≡_, refl, subst, sym, ap, transport⁻¹, _∙_}
 use mathlib.Core.List.{List, _++_}
 use Prim.Native.Nat.{ℕ, _+_, _≤_, _<_}
 use native.Mathlib.Omega.{arith}
@@ -12,18 +13,20 @@ use Rattle.header.specs.declared.HeaderRead.{HeaderRead}
 use Rattle.steps.specs.Records.{fileAnswer}
 use Rattle.steps.proofs.Files.{refused-file}
 use Rattle.text.specs.Text.{Wrote}
-use Rattle.text.proofs.Text.{and-then}
-use Rattle.listing.specs.Lines.{badLine, closing, lastLine, mostBad}
+use Rattle.text.proofs.Text.{and-then, same-long}
+use Rattle.clauses.specs.declared.Clause.{Clause}
+use Rattle.rules.specs.declared.Run.{Run}
+use Rattle.listing.specs.Lines.{badLine, closing, lastLine, mostBad, mostLast}
 use Rattle.listing.specs.Listing.{Printed, badFile, goodFile, Ends, withFile, withStep, mostListing}
-use Rattle.listing.specs.Records as records
+use Rattle.listing.specs.Records.{refuted}
 use Rattle.listing.proofs.Lines.{closes-as-last, length-bad, length-closing}
 use Rattle.listing.proofs.Once.{ends-once, printed-once}
 use Rattle.inspection.specs.StateText.{stateText}
 use Rattle.inspection.specs.Writing as writing
-use Rattle.inspection.specs.Writing.{Recorded}
-use Rattle.judging.specs.Judging.{Leaves, LeavesOnce, Says, Shows, mostInspection}
-use Rattle.judging.specs.Running.{Ran}
-use Rattle.judging.specs.declared.Ended.{Ended}
+use Rattle.inspection.specs.Writing.{Recorded, mostState}
+use Rattle.judging.specs.Judging.{Leaves, LeavesOnce}
+use Rattle.judging.specs.Running.{ending, mostText}
+use Rattle.judging.proofs.Running.{Ran}
 use Rattle.judging.specs.declared.Written.{Written}
 use Rattle.judging.specs.declared.Written.the-variants.{Bytes, Short}
 
@@ -37,10 +40,10 @@ module _ {after : Answer → List ℕ} {most : ℕ} {s d d′ : List ℕ} {n k p
       (room, e, (w, q, count, a .left ∙ sets-eq w d 0 (omega arith) ∙ ap (λ (k : ℕ). w ++ drop k d) (zero-add (length w) ∙ sym count)))
 
   -- The steps' lines and what comes after them
-  pub leaves-run : {d₁ v : List ℕ} {r : Ended} (ran : Ran s d d₁ r) → k ≡ r .number → p ≡ r .place → v ≡ after (ran .answer) → r .at + length v ≤ most
-      → Wrote d₁ (r .at) v d′ n → Leaves after most s d d′ (Bytes n k p)
-  leaves-run {d₁} {v} {r} ran f g e h a =
-      at-front (rw (f ∙ ran .number) (rw (g ∙ ran .place) (withStep (ran .says) (ran .next) (ran .answer) (ran .is) (ran .tried)))) (subst (λ (u : List ℕ). Printed after s (ran .lines ++ u)) (sym e) (goodFile (ran .says) (ran .next) (ran .answer) (ran .is) (ran .tried)))
+  pub leaves-run : {d₁ v : List ℕ} {run : Run} {table : List Clause} {at : ℕ} (ran : Ran s d d₁ run table k p at) → v ≡ after (ran .answer) → at + length v ≤ most
+      → Wrote d₁ at v d′ n → Leaves after most s d d′ (Bytes n k p)
+  leaves-run {d₁} {v} ran e h a =
+      at-front (rw (ran .number-is) (rw (ran .place-is) (withStep (ran .says) (ran .next) (ran .answer) (ran .is) (ran .tried)))) (subst (λ (u : List ℕ). Printed after s (ran .lines ++ u)) (sym e) (goodFile (ran .says) (ran .next) (ran .answer) (ran .is) (ran .tried)))
       (omega (arith, length-append (ran .lines) v, ran .wrote .next)) (and-then (ran .wrote) a)
 
   -- The refusal
@@ -49,29 +52,52 @@ module _ {after : Answer → List ℕ} {most : ℕ} {s d d′ : List ℕ} {n k p
   leaves-bad h e q small low m a =
       let is = refused-file s h e k p q in at-front (withFile k p is) (badFile k p is) (omega (arith, length-bad k p small low)) a
 
--- The last line, by what stands after the steps
-pub last-line : {s d d′ : List ℕ} {r : Ended} (ran : Ran s d d′ r) → closing (records.refuted (r .run)) (r .number) ≡ lastLine (ran .answer)
-last-line ran = (λ i. closing (records.refuted (ran .run i)) (ran .number i)) ∙ closes-as-last (ran .answer)
+-- .. which fits every text's room
+pub bad-fits : (b : Bool) → mostBad ≤ mostText b
+bad-fits true = omega arith
+bad-fits false = omega arith
 
-pub says-run : {s d d₁ d₂ : List ℕ} {n k p : ℕ} {r : Ended} → mostListing ≤ length d → Ran s d d₁ r → k ≡ r .number → p ≡ r .place
-    → Wrote d₁ (r .at) (closing (records.refuted (r .run)) (r .number)) d₂ n → Says s d d₂ (Bytes n k p)
-says-run {r = r} room ran f g a = leaves-run room ran f g (last-line ran) (omega (arith, ran .short, length-closing (records.refuted (r .run)) (r .number))) a
+pub leaves-as : {after : Answer → List ℕ} {most : ℕ} {s : List ℕ} (d : List ℕ) {d₁ d₂ : List ℕ} {n₁ n₂ k p : ℕ} → d₂ ≡ d₁ → n₂ ≡ n₁ → Leaves after most s d d₁ (Bytes n₁ k p) → Leaves after most s d d₂ (Bytes n₂ k p)
+leaves-as {after} {most} {s} d {k = k} {p} e n h = transport⁻¹ (λ i. Leaves after most s d (e i) (Bytes (n i) k p)) h
 
--- It ends where every listing has ended.
-pub last-room : {s d d₁ d₂ : List ℕ} {n : ℕ} {r : Ended} → Ran s d d₁ r → Wrote d₁ (r .at) (closing (records.refuted (r .run)) (r .number)) d₂ n → n ≤ mostListing
-last-room {r = r} ran a = omega (arith, ran .short, a .next, length-closing (records.refuted (r .run)) (r .number))
+-- After the steps: run and table are the records of the state that stands.
+module _ {s d d₁ : List ℕ} {run : Run} {table : List Clause} {k p at : ℕ} (ran : Ran s d d₁ run table k p at) where
+  -- The last line, by what stands
+  abbrev closed : List ℕ
+  closed = closing (refuted run) k
 
--- .. and the final state after it
-pub recorded : {s d d′ : List ℕ} {r : Ended} (ran : Ran s d d′ r) → Recorded (r .run) (r .table) (ran .answer .state)
-recorded ran = record { run-of = record { reached = ran .reached; is = ran .run }; table-is = ran .table }
+  last-line : closed ≡ lastLine (ran .answer)
+  last-line = (λ i. closing (refuted (ran .run-is i)) (ran .number-is i)) ∙ closes-as-last (ran .answer)
 
-pub shows-run : {s d d₁ d₂ d₃ : List ℕ} {m n k p : ℕ} {r : Ended} → mostInspection ≤ length d → (ran : Ran s d d₁ r) → k ≡ r .number → p ≡ r .place
-    → Wrote d₁ (r .at) (closing (records.refuted (r .run)) (r .number)) d₂ m → writing.Shows (r .run) (r .table) d₂ m d₃ n → Shows s d d₃ (Bytes n k p)
-shows-run {m = m} {n} {r = r} room ran f g a b =
-    let state = b (ran .answer .state) (recorded ran) in
-    leaves-run room ran f g (ap (λ (v : List ℕ). v ++ stateText (ran .answer .state)) (last-line ran))
-    (omega (arith, ran .short, length-closing (records.refuted (r .run)) (r .number), length-append (closing (records.refuted (r .run)) (r .number)) (stateText (ran .answer .state)), state .wrote .next, state .room))
-    (and-then a (state .wrote))
+  last-ends : at + length closed ≤ mostListing
+  last-ends = omega (arith, ran .short, length-closing (refuted run) k)
+
+  -- It has room, and ends where every listing has ended.
+  pub last-fits : (b : Bool) → mostText b ≤ length d → at + mostLast ≤ length d₁
+  last-fits true h = omega (arith, ran .short, same-long (ran .wrote))
+  last-fits false h = omega (arith, ran .short, same-long (ran .wrote))
+
+  pub recorded : Recorded run table (ran .answer .state)
+  recorded = record { run-of = record { reached = ran .reached; is = ran .run-is }; table-is = ran .table-is }
+
+  module _ {d₂ : List ℕ} {m : ℕ} (w : Wrote d₁ at closed d₂ m) where
+    pub state-fits : (b : Bool) → b ≡ true → mostText b ≤ length d → m + mostState ≤ length d₂
+    state-fits true e h = omega (arith, w .next, last-ends, same-long w, same-long (ran .wrote))
+    state-fits false e h = absurd (true≢false (sym e))
+
+    -- The listing
+    pub listed : (b : Bool) → b ≡ false → mostText b ≤ length d → Leaves (ending b) (mostText b) s d d₂ (Bytes m k p)
+    listed true e h = absurd (true≢false e)
+    listed false e h = leaves-run h ran last-line last-ends w
+
+    -- .. and the final state after it
+    pub shown : (b : Bool) → b ≡ true → mostText b ≤ length d → {d₃ : List ℕ} {n : ℕ} → writing.Shows run table d₂ m d₃ n → Leaves (ending b) (mostText b) s d d₃ (Bytes n k p)
+    shown true e h u =
+        let state = u (ran .answer .state) recorded in
+        leaves-run h ran (ap (λ (v : List ℕ). v ++ stateText (ran .answer .state)) last-line)
+        (omega (arith, last-ends, length-append closed (stateText (ran .answer .state)), state .wrote .next, state .room))
+        (and-then w (state .wrote))
+    shown false e h u = absurd (true≢false (sym e))
 
 -- The bytes written stand in the buffer.
 module _ (after : Answer → List ℕ) (most : ℕ) where

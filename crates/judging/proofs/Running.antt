@@ -1,7 +1,7 @@
 -- The run so far: what holds before each turn of the loop over the steps, and how a turn goes on from it.
-use mathlib.Core.Path.{_≡_, refl, sym, ap, subst, _∙_}
+use mathlib.Core.Path.{_≡_, refl, sym, ap, subst, transport⁻¹, _∙_}
 use mathlib.Core.List.{List, [], _∷_, _++_, append-assoc, append-nil, map}
-use mathlib.Core.Bool.{Bool, true, not}
+use mathlib.Core.Bool.{Bool, true, false, not}
 use mathlib.Core.Logic.{_⊎_, inl, inr}
 use Prim.Native.Nat.{ℕ, _+_, _-_, _*_, _≤_, _<_}
 use native.Mathlib.Decide.{ℕ-discrete}
@@ -28,8 +28,8 @@ use Rattle.clauses.specs.declared.Clause.{Clause}
 use Rattle.header.specs.Records.{inputOf}
 use Rattle.header.specs.declared.HeaderRead.{HeaderRead}
 use Rattle.rules.specs.Answers.{RunOf, Told, Answered, Handed, Kept, Looks, Reached}
-use Rattle.rules.specs.Effects.{Done, Effects, Fits, Seen, after, isFree, looksAtTrail, made, madeBy, numberOf, topFor}
-use Rattle.rules.specs.Records.{packedRun, stepOf}
+use Rattle.rules.specs.Effects.{Done, Effects, Fits, Seen, after, isFree, looksAtTrail, made, madeBy, numberOf, topFor, topWith}
+use Rattle.rules.specs.Records.{packedRun, remade, stepOf}
 use Rattle.rules.specs.declared.Change.{Change}
 use Rattle.rules.specs.declared.Change.the-variants.{Whole, Refused, Decided, Skipped, Replaced, Grown}
 use Rattle.rules.specs.declared.Effect.{Effect}
@@ -52,7 +52,7 @@ use Rattle.listing.specs.Listing.{Tried, went, refused, through}
 use Rattle.listing.proofs.Lines.{length-accepted, length-refused}
 use Rattle.trail.specs.Entries.{noEntry, packedTrail, pastEnd}
 use Rattle.trail.specs.declared.Entry.{Entry}
-use Rattle.judging.specs.Running.{Ran, placeOf}
+use Rattle.judging.specs.Running.{mostText, placeOf}
 
 -- j of n steps have been tried and accepted: the others stand ahead of the cursor, and whatever comes of them completes what was tried.
 pub record SoFar (s d : List ℕ) (n : ℕ) (d′ : List ℕ) (run : Run) (table : List Clause) (cursor at j : ℕ) : Type 0 where
@@ -70,6 +70,27 @@ pub record SoFar (s d : List ℕ) (n : ℕ) (d′ : List ℕ) (run : Run) (table
   pub wrote : Wrote d 0 lines d′ at
   pub short : at ≤ j * mostLine
   pub on : (v : List ℕ) (e : Answer) → Tried state (j + 1) others v e → Tried (opened says) 1 (says .steps) (lines ++ v) e
+
+-- "One line per step tried .. It stops at a refused step." The steps of the file s were tried from the state on that its header makes; their
+-- lines stand in the buffer from its first byte on; and run and table are the records of the state that stands, number and place those of the
+-- last answer.
+pub record Ran (s d d′ : List ℕ) (run : Run) (table : List Clause) (number place at : ℕ) : Type 0 where
+  pub says : File
+  pub next : ℕ
+  pub is : file s ≡ got says next
+  pub lines : List ℕ
+  pub answer : Answer
+  pub tried : Tried (opened says) 1 (says .steps) lines answer
+  pub wrote : Wrote d 0 lines d′ at
+  pub short : at ≤ mostSteps * mostLine
+  pub run-is : run ≡ packedRun (answer .state)
+  pub table-is : table ≡ packedTable (clauses (answer .state))
+  pub number-is : number ≡ answer .number
+  pub place-is : place ≡ answer .place
+  pub reached : Reached (answer .state)
+
+pub ran-as : {s d d₁ d₂ : List ℕ} {run : Run} {table : List Clause} {k₁ k₂ p₁ p₂ at₁ at₂ : ℕ} → Ran s d d₁ run table k₁ p₁ at₁ → d₂ ≡ d₁ → at₂ ≡ at₁ → k₂ ≡ k₁ → p₂ ≡ p₁ → Ran s d d₂ run table k₂ p₂ at₂
+ran-as {s} {d} {run = run} {table} ran e a k p = transport⁻¹ (λ i. Ran s d (e i) run table (k i) (p i) (a i)) ran
 
 -- ---- changes that are made in place
 
@@ -103,28 +124,15 @@ pub decision-fits : {r : Run} {k : Clause} {n : ℕ} {x : states.Step} {f : Effe
 decision-fits {r} D is = subst (Fits r) is (D .fits)
 
 -- The run after a Skip and after a Grow as the loop makes it, i the slot of the last entry
-abbrev remade : Run → (constants level length : ℕ) → List Entry → Run
-remade r m k n t = record { constants = m; input = r .input; learned = r .learned; level = k; length = n; stands = r .stands; trail = t; conflict = r .conflict }
+pub skipped : (r : Run) (k : ℕ) {i : ℕ} {e : Entry} → i ≡ r .length - 1 → e ≡ noEntry → remade r (r .constants) k i (set (r .trail) i e) (r .conflict) ≡ made r (Skipped k) noEntry (r .conflict)
+skipped r k l b = λ v. remade r (r .constants) k (l v) (set (r .trail) (l v) (b v)) (r .conflict)
 
-pub skipped : (r : Run) (k : ℕ) {i : ℕ} {e : Entry} → i ≡ r .length - 1 → e ≡ noEntry → remade r (r .constants) k i (set (r .trail) i e) ≡ made r (Skipped k) noEntry (r .conflict)
-skipped r k l b = λ v. remade r (r .constants) k (l v) (set (r .trail) (l v) (b v))
-
-pub grown : (r : Run) (m : ℕ) {t : List Entry} → t ≡ packedTrail [] → remade r m 0 0 t ≡ made r (Grown m) noEntry (r .conflict)
-grown r m b = λ v. remade r m 0 0 (b v)
+pub grown : (r : Run) (m : ℕ) {t : List Entry} → t ≡ packedTrail [] → remade r m 0 0 t (r .conflict) ≡ made r (Grown m) noEntry (r .conflict)
+grown r m b = λ v. remade r m 0 0 (b v) (r .conflict)
 
 -- The top of a run as the loop makes it, i the slot of the last entry
 abbrev topAt : Run → ℕ → Bool → Top
-topAt r i b = record {
-  constants = r .constants;
-  input = r .input;
-  learned = r .learned;
-  level = r .level;
-  length = r .length;
-  stands = r .stands;
-  free = b;
-  last = getD (r .trail) i pastEnd;
-  conflict = r .conflict;
-}
+topAt r i b = topWith r (getD (r .trail) i pastEnd) b
 
 -- Decide asks the trail whether its literal is undefined, and no other rule does.
 free-is : (r : Run) (k : Clause) (x : Step) (b : Bool)
@@ -162,10 +170,15 @@ start s d h first {run} {table} e q r t = record {
 
 -- ---- a turn
 
+-- Every text has room for the steps' lines.
+steps-fit : (b : Bool) → mostSteps * mostLine ≤ mostText b
+steps-fit true = omega arith
+steps-fit false = omega arith
+
 module _ {s d d′ : List ℕ} {n cursor at j : ℕ} {run : Run} {table : List Clause} (S : SoFar s d n d′ run table cursor at j) where
   -- There is room for one line more.
-  pub line-fits : j < n → mostSteps * mostLine ≤ length d → (j + 1 ≤ mostSteps) × (at + mostLine ≤ length d′)
-  line-fits h k = (omega (arith, S .few), omega (arith, S .few, S .short, same-long (S .wrote)))
+  pub line-fits : j < n → (b : Bool) → mostText b ≤ length d → (j + 1 ≤ mostSteps) × (at + mostLine ≤ length d′)
+  line-fits h b k = (omega (arith, S .few), omega (arith, S .few, S .short, same-long (S .wrote), steps-fit b))
 
   pub kept : Kept run
   kept = (S .state, S .run-of)
@@ -215,7 +228,7 @@ module _ {s d d′ : List ℕ} {n cursor at j : ℕ} {run : Run} {table : List C
 
       -- A refused step: its line is the last, and nothing more is tried; the run is as it was.
       pub stop : ¬ (a .number ≡ 0) → {d₂ : List ℕ} {at₂ : ℕ} → Wrote d′ at (refusedLine (j + 1) (stepOf (r .step)) (a .number)) d₂ at₂
-          → Ran s d d₂ (record { run = run; table = table; number = a .number; place = a .place; at = at₂ })
+          → Ran s d d₂ run table (a .number) (a .place) at₂
       stop z {d₂} {at₂} w = record {
         says = S .says;
         next = S .next;
@@ -226,10 +239,10 @@ module _ {s d d′ : List ℕ} {n cursor at j : ℕ} {run : Run} {table : List C
             (subst (λ (k : ℕ). Tried (S .state) (j + 1) (x ∷ now .others) (line k) b) (sym number-is) (refused b (told .1) (λ q. z (number-is ∙ q)))));
         wrote = and-then (S .wrote) w;
         short = omega (arith, w .next, S .short, S .few, length-refused (j + 1) x (a .number) (omega (arith, S .few)) (omega (arith, number-is, number-in-table whole (S .state) x b (told .1))));
-        run = S .run-of .is ∙ ap packedRun (sym (refused-hands-back whole (S .state) x b (told .1) (λ q. z (number-is ∙ q))));
-        table = S .table-is ∙ sym (table-same (r .step) a told (λ q. absurd (z q)));
-        number = number-is;
-        place = ap (λ (q : Stepped). q .place) (told .2);
+        run-is = S .run-of .is ∙ ap packedRun (sym (refused-hands-back whole (S .state) x b (told .1) (λ q. z (number-is ∙ q))));
+        table-is = S .table-is ∙ sym (table-same (r .step) a told (λ q. absurd (z q)));
+        number-is = number-is;
+        place-is = ap (λ (q : Stepped). q .place) (told .2);
         reached = next-reached;
       }
         where
@@ -298,15 +311,15 @@ module _ {s d d′ : List ℕ} {n cursor at j : ℕ} {run : Run} {table : List C
       turn-made z m w past t = turn-same (after run f) (D .answers quick) (ap numberOf is ∙ z) (m ∙ ap (λ (u : Change). made run u (f .entry) (f .conflict)) (sym is)) w past not-backtrack t
 
     pub stop-made : {f : Effect} → Done run (getD table k pastTable) (r .step .rule) (stepOf (r .step)) f → {m : ℕ} → f .change ≡ Refused m → {d₂ : List ℕ} {at₂ : ℕ}
-        → Wrote d′ at (refusedLine (j + 1) (stepOf (r .step)) m) d₂ at₂ → Ran s d d₂ (record { run = run; table = table; number = m; place = 0; at = at₂ })
-    stop-made {f} D {m} is {d₂} {at₂} w = subst (λ (k : ℕ). Ran s d d₂ (record { run = run; table = table; number = k; place = 0; at = at₂ })) (ap numberOf is)
+        → Wrote d′ at (refusedLine (j + 1) (stepOf (r .step)) m) d₂ at₂ → Ran s d d₂ run table m 0 at₂
+    stop-made {f} D {m} is {d₂} {at₂} w = subst (λ (k : ℕ). Ran s d d₂ run table k 0 at₂) (ap numberOf is)
         (stop (after run f) (D .answers (quick D (Refused m) is tt)) (λ z. refused-number (r .step .rule) m (subst (λ (u : Change). T (madeBy (r .step .rule) u)) is (D .by)) (sym (ap numberOf is) ∙ z))
         (subst (λ (k : ℕ). Wrote d′ at (refusedLine (j + 1) (stepOf (r .step)) k) d₂ at₂) (sym (ap numberOf is)) w))
 
 -- ---- after the last step
 
 pub done : {s d d′ : List ℕ} {n cursor at j : ℕ} {run : Run} {table : List Clause} → SoFar s d n d′ run table cursor at j → n ≤ j
-    → Ran s d d′ (record { run = run; table = table; number = 0; place = 0; at = at })
+    → Ran s d d′ run table 0 0 at
 done {j = j} S h = record {
   says = S .says;
   next = S .next;
@@ -316,10 +329,10 @@ done {j = j} S h = record {
   tried = rw append-nil at (S .on [] last (subst (λ (xs : List states.Step). Tried (S .state) (j + 1) xs [] last) (sym (drop-of-length-le (S .others) {i = 0} (omega (arith, S .count)))) through));
   wrote = S .wrote;
   short = omega (arith, S .short, S .few, S .count);
-  run = S .run-of .is;
-  table = S .table-is;
-  number = refl;
-  place = refl;
+  run-is = S .run-of .is;
+  table-is = S .table-is;
+  number-is = refl;
+  place-is = refl;
   reached = S .run-of .reached;
 }
   where

@@ -1,13 +1,11 @@
 // A whole run file judged into a lent buffer.
 ghost use mathlib.Core.Path.{_≡_};
-ghost use Prim.Native.Nat.{_*_, _≤_};
+ghost use Prim.Native.Nat.{_≤_};
 ghost use lib.ListN.{length};
-ghost use Rattle.runfile.specs.File.{mostSteps};
 ghost use Rattle.fields.specs.declared.Cursor.the-variants as C;
 ghost use Rattle.steps.specs.Records.{fileAnswer};
-ghost use Rattle.listing.specs.Lines.{mostLine};
-ghost use Rattle.judging.specs.Judging.{Says, Shows};
-ghost use Rattle.judging.specs.Running.{Ran, placeOf};
+ghost use Rattle.judging.specs.Judging.{Leaves, Says, Shows};
+ghost use Rattle.judging.specs.Running.{ending, mostText, placeOf};
 use basis::MOST_CLAUSES;
 use clauses::Clause;
 use fields::Cursor;
@@ -48,15 +46,6 @@ pub const MOST_LISTING: usize = 54008;
 // No inspection has more: the listing, a line for each of 160 entries and 96 clauses, and two more.
 pub const MOST_INSPECTION: usize = 136078;
 
-// After the steps of a file: what stands, the answer to the last step tried, and the place after the lines written
-struct Ended {
-    run: Run,
-    table: [Clause; MOST_CLAUSES],
-    number: u8,
-    place: u8,
-    at: usize,
-}
-
 // ---- the steps
 
 // Where a cursor stands, or was refused
@@ -69,25 +58,12 @@ fn place_of(at: Cursor) -> usize
     }
 }
 
-// The last answer, with what stands and the place reached
-fn ended_with(run: Run, table: [Clause; MOST_CLAUSES], number: u8, place: u8, at: usize) -> Ended
-    ensures { λ r. ⌜ r ≡ record { run = run; table = table; number = number; place = place; at = at } ⌝ }
-{
-    Ended {
-        run: run,
-        table: table,
-        number: number,
-        place: place,
-        at: at,
-    }
-}
-
-// Tries the steps of a file that is in order, a line for each. "It stops at a refused step." The table stays here: a step is handed the one
-// clause that it looks at, and only an accepted Backtrack writes it. What a rule changes that tests no atoms is written in place: such a rule
-// is handed the top of the run, and no trail.
-fn run_steps(file: &[u8], head: HeaderRead, first: usize, out: &mut [u8]) -> Ended
-    requires { ⌜ (head ≡ fileAnswer (now file)) × (head .at ≡ C.At first) × (mostSteps * mostLine ≤ length (now out)) ⌝ }
-    ensures { λ r. ⌜ Ran (now (file .entry)) (now (out .entry)) (now (out .exit)) r ⌝ }
+// Tries the steps of a file that is in order, a line for each. "It stops at a refused step." Then comes the last line, and the final state if
+// it is to be shown. The table stays here: a step is handed the one clause that it looks at, and only an accepted Backtrack writes it. What a
+// rule changes that tests no atoms is written in place: such a rule is handed the top of the run, and no trail.
+fn run_steps(file: &[u8], head: HeaderRead, first: usize, out: &mut [u8], shown: bool) -> Written
+    requires { ⌜ (head ≡ fileAnswer (now file)) × (head .at ≡ C.At first) × (mostText shown ≤ length (now out)) ⌝ }
+    ensures { λ r. ⌜ Leaves (ending shown) (mostText shown) (now (file .entry)) (now (out .entry)) (now (out .exit)) r ⌝ }
 {
     let n = head.steps as usize;
     let mut run = new_run(head.constants, head.input);
@@ -95,8 +71,10 @@ fn run_steps(file: &[u8], head: HeaderRead, first: usize, out: &mut [u8]) -> End
     let blank = empty_trail();
     let mut cursor = first;
     let mut at: usize = 0;
+    let mut number: u8 = 0;
+    let mut place: u8 = 0;
     let mut j: usize = 0;
-    while j < n {
+    'steps: while j < n {
         let read = step_at(file, cursor);
         let x = read.step;
         let past = read.at;
@@ -136,8 +114,10 @@ fn run_steps(file: &[u8], head: HeaderRead, first: usize, out: &mut [u8]) -> End
             Change::Whole => {
                 let a = run.step(clause, x);
                 if a.number != 0 {
-                    at = put_refused(out, at, j + 1, x, a.number);
-                    return ended_with(run, table, a.number, a.place, at);
+                    number = a.number;
+                    place = a.place;
+                    at = put_refused(out, at, j + 1, x, number);
+                    break 'steps;
                 }
                 if x.rule == 7 {
                     let learned = conflict.clause;
@@ -146,9 +126,10 @@ fn run_steps(file: &[u8], head: HeaderRead, first: usize, out: &mut [u8]) -> End
                 }
                 run = a.run;
             }
-            Change::Refused { number } => {
+            Change::Refused { number: why } => {
+                number = why;
                 at = put_refused(out, at, j + 1, x, number);
-                return ended_with(run, table, number, 0, at);
+                break 'steps;
             }
             Change::Decided => {
                 let entry = effect.entry;
@@ -178,31 +159,29 @@ fn run_steps(file: &[u8], head: HeaderRead, first: usize, out: &mut [u8]) -> End
         cursor = place_of(past);
         j += 1;
     }
-    ended_with(run, table, 0, 0, at)
+    let last = put_last(out, at, run, number);
+    let mut count = last;
+    if shown {
+        count = put_state(out, last, run, table);
+    }
+    Written::Bytes {
+        count: count,
+        number: number,
+        place: place as usize,
+    }
 }
 
 // ---- the file
 
-// The listing of a file, written from the buffer's first byte on. The whole file is judged before the first step is tried.
-pub fn judge(file: &[u8], out: &mut [u8]) -> Written
-    ensures { λ r. ⌜ Says (now (file .entry)) (now (out .entry)) (now (out .exit)) r ⌝ }
+// What is written of a file into a buffer that has room for every such text. The whole file is judged before the first step is tried.
+fn judged(file: &[u8], out: &mut [u8], shown: bool) -> Written
+    requires { ⌜ mostText shown ≤ length (now out) ⌝ }
+    ensures { λ r. ⌜ Leaves (ending shown) (mostText shown) (now (file .entry)) (now (out .entry)) (now (out .exit)) r ⌝ }
 {
-    if out.len() < MOST_LISTING {
-        return Written::Short;
-    }
     let head = read_file(file);
     let begin = head.at;
     match begin {
-        Cursor::At { place } => {
-            let end = run_steps(file, head, place, out);
-            let run = end.run;
-            let count = put_last(out, end.at, run, end.number);
-            Written::Bytes {
-                count: count,
-                number: end.number,
-                place: end.place as usize,
-            }
-        }
+        Cursor::At { place } => run_steps(file, head, place, out, shown),
         Cursor::Refused { number, place } => {
             let count = put_bad(out, 0, number, place);
             Written::Bytes {
@@ -212,6 +191,16 @@ pub fn judge(file: &[u8], out: &mut [u8]) -> Written
             }
         }
     }
+}
+
+// The listing of a file, written from the buffer's first byte on
+pub fn judge(file: &[u8], out: &mut [u8]) -> Written
+    ensures { λ r. ⌜ Says (now (file .entry)) (now (out .entry)) (now (out .exit)) r ⌝ }
+{
+    if out.len() < MOST_LISTING {
+        return Written::Short;
+    }
+    judged(file, out, false)
 }
 
 // For reviewers: the listing, and after it the final state
@@ -221,28 +210,5 @@ pub fn inspect(file: &[u8], out: &mut [u8]) -> Written
     if out.len() < MOST_INSPECTION {
         return Written::Short;
     }
-    let head = read_file(file);
-    let begin = head.at;
-    match begin {
-        Cursor::At { place } => {
-            let end = run_steps(file, head, place, out);
-            let run = end.run;
-            let table = end.table;
-            let last = put_last(out, end.at, run, end.number);
-            let count = put_state(out, last, run, table);
-            Written::Bytes {
-                count: count,
-                number: end.number,
-                place: end.place as usize,
-            }
-        }
-        Cursor::Refused { number, place } => {
-            let count = put_bad(out, 0, number, place);
-            Written::Bytes {
-                count: count,
-                number: number,
-                place: place,
-            }
-        }
-    }
+    judged(file, out, true)
 }
