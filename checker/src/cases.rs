@@ -1,22 +1,26 @@
-//! Cases of admission and of steps offered without a file, read from text: those of `crates/rule_cases`.
+//! Cases of merging, and of admission and steps offered without a file, read from text: those of
+//! `crates/rule_cases`.
 //!
-//! A case is a name, the numbers of constants, predicates and clauses, the arities, the clauses, each as
-//! often as the number before it says, and the steps, each list ended by a bar. A clause is its three
-//! counts, its atoms, its literals and an instance that is not looked at, ended by bars too; a step is a
-//! rule, a clause, two literals, a sign, Grow's count, the instance's count and the instance. A line that
-//! begins with a blank goes on with the case before it; one that begins with # is passed over. Whatever is
-//! no digit, minus sign or bar only parts numbers.
+//! A case is a name, a number that says what is done, and what it is done to. 0 and 9 are a run: the
+//! numbers of constants, predicates and clauses, the arities, the clauses, each as often as the number
+//! before it says, and the steps, each list ended by a bar. 1 is the reason of a clause, 4 the resolvent of
+//! two, 5 a clause factored, with the literals that are named, numbered from 0. A clause is its three
+//! counts, its atoms, its literals and an instance, which in a run is not looked at, ended by bars too; a
+//! step is a rule, a clause, two literals, a sign, Grow's count, the instance's count and the instance. A
+//! line that begins with a blank goes on with the case before it; one that begins with # is passed over.
+//! Whatever is no digit, minus sign or bar only parts numbers.
 
 use crate::admission::{admit, ClauseRecord, LiteralRecord, StepRecord};
-use crate::clause::Atom;
+use crate::clause::{Atom, Clause, Closure, Literal};
 use crate::limits;
-use crate::listing::final_state;
+use crate::listing::{conflict_text, final_state};
 use crate::refusal::Refusal;
-use crate::state::State;
+use crate::rules::{factor, resolvent};
+use crate::state::{Origin, State};
 use std::collections::VecDeque;
 
-/// What the cases come to: of each its name with admission's answer, and after every step a line with its
-/// answer and then the state.
+/// What the cases come to: of each its name, and then what merging makes of it, or a run's answers and
+/// states.
 pub fn answers(text: &[u8]) -> String {
     cases(&String::from_utf8_lossy(text)).iter().map(|case| answer(case)).collect()
 }
@@ -36,19 +40,79 @@ fn cases(text: &str) -> Vec<String> {
 fn answer(case: &str) -> String {
     let (name, rest) = case.split_once(' ').unwrap_or((case, ""));
     let mut words = Words::of(rest);
+    let text = match words.byte() {
+        0 => run(&mut words, true),
+        1 => reason(&mut words),
+        4 => resolved(&mut words),
+        5 => factored(&mut words),
+        _ => run(&mut words, false),
+    };
+    format!("{name} {text}")
+}
+
+/// Admission's answer, and after every step a line with its answer; the state after each step, or else at
+/// the end.
+fn run(words: &mut Words, each: bool) -> String {
     let (constants, predicates, count) = (words.byte(), words.byte(), words.byte());
     let arities = filled(&words.bytes(), 0);
     let mut clauses = words.clauses();
     clauses.resize(count.into(), ClauseRecord::blank());
     let opened = admit(constants, predicates, &arities, &clauses);
-    let mut text = format!("{name} {}\n", numbers(&opened));
+    let mut text = format!("{}\n", numbers(&opened));
     // A refused file yields no state: the steps then meet that of no clauses.
     let mut state = opened.unwrap_or(State::first(0, Vec::new(), Vec::new()));
     while !words.at_end() {
         let answer = state.offer(&words.step());
-        text += &format!("step {}\n{}", numbers(&answer), final_state(&state));
+        text += &format!("step {}\n", numbers(&answer));
+        if each {
+            text += &final_state(&state);
+        }
+    }
+    if !each {
+        text += &final_state(&state);
     }
     text
+}
+
+/// The reason of a literal, and where that literal then stands, from 0.
+fn reason(words: &mut Words) -> String {
+    let given = words.closure();
+    let literal = words.literal_number();
+    let (reason, own) = match given {
+        Some(Closure { clause, instance }) => {
+            let origin = Origin { decision: false, clause: 1, literal, instance };
+            State::first(0, Vec::new(), vec![clause]).reason(&origin)
+        }
+        None => (Closure::blank(), 1),
+    };
+    format!("{} {}\n", merged_text(Some(&reason)), own - 1)
+}
+
+fn resolved(words: &mut Words) -> String {
+    let (conflict, reason) = (words.closure(), words.closure());
+    let (literal, own) = (words.literal_number(), words.literal_number());
+    let merged = conflict
+        .zip(reason)
+        .map(|(conflict, reason)| resolvent(&conflict, literal, &reason, own))
+        .filter(|closure| closure.clause.within_limits());
+    format!("{}\n", merged_text(merged.as_ref()))
+}
+
+fn factored(words: &mut Words) -> String {
+    let conflict = words.closure();
+    let (first, second) = (words.literal_number(), words.literal_number());
+    let merged = conflict.map(|conflict| factor(&conflict, first, second));
+    format!("{}\n", merged_text(merged.as_ref()))
+}
+
+/// As a conflict is printed. A case of merging names no arities: those are the arguments that are not 0.
+fn merged_text(merged: Option<&Closure>) -> String {
+    let mut arities = [0; limits::PREDICATES];
+    for literal in merged.iter().flat_map(|closure| &closure.clause.literals) {
+        let arguments = literal.arguments.iter().filter(|&&argument| argument != 0);
+        arities[literal.predicate as usize - 1] = arguments.count() as u8;
+    }
+    conflict_text(merged, &arities)
 }
 
 /// "a number (0 for accepted) and a place"
@@ -150,20 +214,38 @@ impl Words {
         LiteralRecord { sign: !negative as u8, predicate: predicate as u8, arguments }
     }
 
-    fn clause(&mut self) -> ClauseRecord {
+    /// A clause and an instance beside it.
+    fn given(&mut self) -> (ClauseRecord, Vec<u8>) {
         let (variables, atom_count, literal_count) = (self.byte(), self.byte(), self.byte());
         self.past_bar();
         let blank = ClauseRecord::blank();
         let atoms = filled(&self.list(Words::atom), blank.atoms[0]);
         let literals = filled(&self.list(Words::literal), blank.literals[0]);
-        self.bytes();
-        ClauseRecord { variables, atom_count, atoms, literal_count, literals }
+        let record = ClauseRecord { variables, atom_count, atoms, literal_count, literals };
+        (record, self.bytes())
+    }
+
+    /// The clause that a record says, with its instance. None where a count is above its limit.
+    fn closure(&mut self) -> Option<Closure> {
+        let (record, instance) = self.given();
+        let literals = record.literals.get(..record.literal_count.into())?;
+        let clause = Clause {
+            variables: record.variables,
+            atoms: record.atoms.get(..record.atom_count.into())?.to_vec(),
+            literals: literals.iter().map(LiteralRecord::literal).collect(),
+        };
+        clause.within_limits().then_some(Closure { clause, instance })
+    }
+
+    /// A literal's number, which a case of merging counts from 0.
+    fn literal_number(&mut self) -> u8 {
+        self.byte() + 1
     }
 
     fn clauses(&mut self) -> Vec<ClauseRecord> {
         let repeated = self.list(|words| {
             let times = words.number().1 as usize;
-            vec![words.clause(); times]
+            vec![words.given().0; times]
         });
         repeated.concat()
     }
@@ -173,6 +255,19 @@ impl Words {
         let (sign, count, instance_count) = (self.byte(), self.byte(), self.byte());
         let instance = filled(&self.bytes(), 0);
         StepRecord { rule, clause, literal, second, sign, instance_count, instance, count }
+    }
+}
+
+impl LiteralRecord {
+    fn literal(&self) -> Literal {
+        Literal { positive: self.sign == 1, predicate: self.predicate, arguments: self.arguments }
+    }
+}
+
+impl Closure {
+    fn blank() -> Closure {
+        let clause = Clause { variables: 0, atoms: Vec::new(), literals: Vec::new() };
+        Closure { clause, instance: Vec::new() }
     }
 }
 

@@ -2,7 +2,7 @@
 //!
 //! The checker: [`clause`], [`constraint`], [`merge`], [`state`], [`step`], [`rules`] are the
 //! calculus, [`file`] and [`admission`] its two ways in, [`listing`] what is printed; [`cases`] are offered
-//! by the second way.
+//! by the second way, or to [`merge`] alone.
 //!
 //! The tests of others: [`generate`] makes run files, [`coverage`] counts what they come to, [`smt`] puts
 //! questions to a solver.

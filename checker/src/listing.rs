@@ -114,14 +114,15 @@ pub fn final_state(state: &State) -> String {
     for (index, clause) in state.input.iter().chain(&state.learned).enumerate() {
         lines.push(format!("clause {} {}", index + 1, clause_text(clause, &state.arities)));
     }
-    lines.push(match &state.conflict {
-        None => "conflict none".to_string(),
-        Some(conflict) => {
-            let clause = clause_text(&conflict.clause, &state.arities);
-            format!("conflict {clause} at {}", tuple(&conflict.instance))
-        }
-    });
+    lines.push(format!("conflict {}", conflict_text(state.conflict.as_ref(), &state.arities)));
     lines.join("\n") + "\n"
+}
+
+/// A clause with its instance, or `none`.
+pub fn conflict_text(conflict: Option<&Closure>, arities: &[u8]) -> String {
+    conflict.map_or("none".to_string(), |Closure { clause, instance }| {
+        format!("{} at {}", clause_text(clause, arities), tuple(instance))
+    })
 }
 
 fn entry_text(entry: &Entry, arities: &[u8]) -> String {

@@ -174,12 +174,7 @@ impl State {
         demand(first != second, Refusal::of_step(10))?;
         let same = one.at(&conflict.instance) == other.at(&conflict.instance);
         demand(same, Refusal::of_step(15))?;
-        // "Their variables are merged; the one with the larger number goes."
-        let mut groups = Groups::apart(conflict.clause.variables.into());
-        groups.merge_arguments(one, other);
-        let literals = without(&conflict.clause.literals, first.max(second));
-        let factor = merged(&groups, &conflict.clause.atoms, &literals, &conflict.instance);
-        Ok(Change::Conflict(factor))
+        Ok(Change::Conflict(factor(conflict, first, second)))
     }
 
     /// "**6 Skip**."
@@ -302,7 +297,7 @@ fn without(literals: &[Literal], number: u8) -> Vec<Literal> {
 
 /// "The reason's variables are renamed apart, then merged argument by argument. New conflict: the
 /// old literals without L', then the reason's without its own; old atoms, then the reason's."
-fn resolvent(conflict: &Closure, literal: u8, reason: &Closure, reason_own: u8) -> Closure {
+pub fn resolvent(conflict: &Closure, literal: u8, reason: &Closure, reason_own: u8) -> Closure {
     let old = &conflict.clause;
     // "renamed reason variables follow the conflict's"
     let rename = |variable: u8| if variable == 0 { 0 } else { old.variables + variable };
@@ -320,4 +315,13 @@ fn resolvent(conflict: &Closure, literal: u8, reason: &Closure, reason_own: u8) 
     literals.extend(without(&reason_literals, reason_own));
     let instance = [&conflict.instance[..], &reason.instance[..]].concat();
     merged(&groups, &atoms, &literals, &instance)
+}
+
+/// "Their variables are merged; the one with the larger number goes."
+pub fn factor(conflict: &Closure, first: u8, second: u8) -> Closure {
+    let old = &conflict.clause;
+    let mut groups = Groups::apart(old.variables.into());
+    groups.merge_arguments(&old.literals[first as usize - 1], &old.literals[second as usize - 1]);
+    let literals = without(&old.literals, first.max(second));
+    merged(&groups, &old.atoms, &literals, &conflict.instance)
 }

@@ -1,4 +1,4 @@
-//! What the cases of the proved library's front door must come to is what this checker makes of them.
+//! What the cases of `crates/rule_cases` must come to is what this checker makes of them.
 
 use checker::cases::answers;
 

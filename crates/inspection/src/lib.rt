@@ -347,7 +347,8 @@ fn put_first_line(out: &mut [u8], at: usize, constants: u8, level: u8) -> usize
     put_byte(out, k, b'\n')
 }
 
-fn put_conflict(out: &mut [u8], at: usize, stands: bool, n: Instanced) -> usize
+// A conflict where one stands: the clause with its instance
+pub fn put_conflict(out: &mut [u8], at: usize, stands: bool, n: Instanced) -> usize
     requires { ⌜ at + mostConflict ≤ length (now out) ⌝ }
     ensures { λ r. ⌜ Put mostConflict (now (out .entry)) at (conflictText (conflictSaid stands n)) (now (out .exit)) r ⌝ }
 {

@@ -7,10 +7,10 @@ use Rattle.rule_cases.proofs.main.Statement.{statement}
 use Rattle.rule_cases.proofs.main.Tie as tie
 
 abbrev Inv-loop : tie.InvT-loop
-Inv-loop buffer n at₀ lines₀ at lines = (lines ≤ 1000) × (n ≤ length buffer)
+Inv-loop buffer n at₀ at = (at ≤ n) × (n ≤ length buffer)
 
 abbrev μ-loop : tie.MeasureT-loop
-μ-loop buffer n at₀ lines₀ at lines = 1000 - lines
+μ-loop buffer n at₀ at = n - at
 
 large-buffer-requires : tie.Need-large-buffer-requires Inv-loop μ-loop
 large-buffer-requires c κs = search needs
@@ -36,9 +36,6 @@ line-requires c κs = search needs
 next-case-requires : tie.Need-next-case-requires Inv-loop μ-loop
 next-case-requires c κs = search needs
 
-add-lines : tie.Need-add-lines Inv-loop μ-loop
-add-lines c = search needs
-
 loop-less : tie.Need-loop-less Inv-loop μ-loop
 loop-less c = search needs
 
@@ -62,7 +59,6 @@ main-spec =
     slice-aggregate-s
     line-requires
     next-case-requires
-    add-lines
     loop-less
     loop-again
     returns)

@@ -8,10 +8,10 @@ use Rattle.rule_cases.proofs.steps.Statement.{statement}
 use Rattle.rule_cases.proofs.steps.Tie as tie
 
 abbrev Inv-loop : tie.InvT-loop
-Inv-loop s at state₀ next₀ counter₀ state next counter = (counter ≤ 1000) × Kept state
+Inv-loop s at each state₀ next₀ counter₀ state next counter = (counter ≤ 1000) × Kept state
 
 abbrev μ-loop : tie.MeasureT-loop
-μ-loop s at state₀ next₀ counter₀ state next counter = 1000 - counter
+μ-loop s at each state₀ next₀ counter₀ state next counter = 1000 - counter
 
 loop-holds : tie.Need-loop-holds Inv-loop μ-loop
 loop-holds c = (search needs, c .before .pre)
@@ -35,7 +35,7 @@ loop-again : tie.Need-loop-again Inv-loop μ-loop
 loop-again c = (search needs, ⊎-elim (λ w. subst Kept (sym (w .4)) (w .3 .ensures)) (λ w. subst Kept (sym (w .1)) (c .before .before .before .loop .inv .1)) (c .if1 .came))
 
 returns : tie.Need-returns Inv-loop μ-loop
-returns c = search needs
+returns c = c .before .loop .inv .1
 
 pub steps-spec : {M : Type 1} → statement M
 steps-spec =
