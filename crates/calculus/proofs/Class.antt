@@ -244,23 +244,15 @@ used-map f az ls k t = go (said (anyOf inA az))
         let (x, n, w) = anyOf-out (eqb k) (arguments l) u in
         or-r (anyOf outA (map (renameAtom f) az)) (anyOf outL (map (renameLiteral f) ls)) (anyOf-in outL (map (renameLiteral f) ls) (Memᴰ·map (renameLiteral f) m) (anyOf-in (eqb (f k)) (map f (arguments l)) (Memᴰ·map f n) (same x w)))
 
-pub merge-occurs : (es : List (ℕ × ℕ)) (v : ℕ) (az : List Atom) (ls : List Literal) (τ : List ℕ) (x : ℕ) → 1 ≤ x → x ≤ merge es v az ls τ .clause .variables → T (occursIn (merge es v az ls τ .clause .atoms) (merge es v az ls τ .clause .literals) x)
-unfolding merge closeUp
-merge-occurs es v az ls τ zero h k = absurd (omega arith)
-merge-occurs es v az ls τ (suc j) h k =
-    subst (λ q. T (occursIn (map (renameAtom r) az₁) (map (renameLiteral r) ls₁) q)) at (used-map r az₁ ls₁ y (keepIf-sat (occursIn az₁ ls₁) (upFrom 1 v) mem))
+-- After closing up every variable occurs.
+close-occurs : (v : ℕ) (az : List Atom) (ls : List Literal) (τ : List ℕ) (x : ℕ) → 1 ≤ x → x ≤ closeUp v az ls τ .clause .variables → T (occursIn (closeUp v az ls τ .clause .atoms) (closeUp v az ls τ .clause .literals) x)
+unfolding closeUp
+close-occurs v az ls τ zero h k = absurd (omega arith)
+close-occurs v az ls τ (suc j) h k =
+    subst (λ q. T (occursIn (map (renameAtom r) az) (map (renameLiteral r) ls) q)) at (used-map r az ls y (keepIf-sat (occursIn az ls) (upFrom 1 v) mem))
   where
-    σ : List ℕ
-    σ = joins es (upFrom 1 v)
-
-    az₁ : List Atom
-    az₁ = distinct (map (renameAtom (under σ)) az)
-
-    ls₁ : List Literal
-    ls₁ = map (renameLiteral (under σ)) ls
-
     ks : List ℕ
-    ks = keepIf (occursIn az₁ ls₁) (upFrom 1 v)
+    ks = keepIf (occursIn az ls) (upFrom 1 v)
 
     r : ℕ → ℕ
     r x = indexOf x (zero ∷ ks)
@@ -275,14 +267,14 @@ merge-occurs es v az ls τ (suc j) h k =
     mem = getD-mem ks j zero lt
 
     ge : 1 ≤ y
-    ge = upFrom-out 1 v y (keepIf-out (occursIn az₁ ls₁) (upFrom 1 v) mem) .0
+    ge = upFrom-out 1 v y (keepIf-out (occursIn az ls) (upFrom 1 v) mem) .0
 
     step : (y : ℕ) → 1 ≤ y → indexOf y ks ≡ j → indexOf y (zero ∷ ks) ≡ suc j
     step zero h e = absurd (omega arith)
     step (suc y) h e = rw (eqb·suc-zero y) (ap suc e)
 
     at : r y ≡ suc j
-    at = step y ge (indexOf-keepIf (occursIn az₁ ls₁) 1 v j lt)
+    at = step y ge (indexOf-keepIf (occursIn az ls) 1 v j lt)
 
 -- ---- a merged clause is of the class
 
@@ -303,7 +295,7 @@ occurs-of {C} {x} t = go (said (anyOf (λ a. eqb x (a .p) || eqb x (a .q)) (C .a
 merge-class : {arities : List ℕ} (es : List (ℕ × ℕ)) (v : ℕ) (az : List Atom) (ls : List Literal) (τ : List ℕ) → Paired v es → Shaped arities v az ls → InClass arities (merge es v az ls τ .clause)
 unfolding merge closeUp
 merge-class {arities} es v az ls τ pairs s =
-    record { atoms-proper = r .atoms; literals-proper = r .literals; each-occurs = λ x a b. occurs-of (merge-occurs es v az ls τ x a b); differences-bounded = r .differences }
+    record { atoms-proper = r .atoms; literals-proper = r .literals; each-occurs = λ x a b. occurs-of (close-occurs v (distinct (map (renameAtom (under σ)) az)) (map (renameLiteral (under σ)) ls) τ x a b); differences-bounded = r .differences }
   where
     σ : List ℕ
     σ = joins es (upFrom 1 v)
