@@ -33,7 +33,9 @@ use clauses::Clause;
 use clauses::counted;
 use clauses::in_atom;
 use clauses::in_literal;
+use clauses::no_atom;
 use clauses::no_clause;
+use clauses::no_literal;
 
 // The refusal's number, 0 for none, and the clause as it was read; a refused one is handed back blank.
 pub struct ClauseAnswer {
@@ -120,13 +122,7 @@ fn clean_literals(
     ensures { λ r. ⌜ r ≡ exactly mostLiterals noLiteral (offered (offeredArities predicates arities) c .literals) ⌝ }
 {
     let n = clause_literals(c);
-    let blank = Literal {
-        positive: false,
-        predicate: 0,
-        x: 0,
-        y: 0,
-        z: 0,
-    };
+    let blank = no_literal();
     let mut out = [blank; MOST_LITERALS];
     let mut j: usize = 0;
     while j < n {
@@ -143,7 +139,7 @@ fn clean_atoms(c: Clause) -> [Atom; MOST_ATOMS]
     ensures { λ r. ⌜ r ≡ exactly mostAtoms noAtom (exactly (c .atomcount) noAtom (c .atoms)) ⌝ }
 {
     let n = clause_atoms(c);
-    let blank = Atom { p: 0, q: 0, c: 0 };
+    let blank = no_atom();
     let mut out = [blank; MOST_ATOMS];
     let mut j: usize = 0;
     while j < n {

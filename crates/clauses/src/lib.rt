@@ -55,14 +55,8 @@ pub fn no_literal() -> Literal
 pub fn no_clause() -> Clause
     ensures { λ r. ⌜ r ≡ packed noClause ⌝ }
 {
-    let a = Atom { p: 0, q: 0, c: 0 };
-    let l = Literal {
-        positive: false,
-        predicate: 0,
-        x: 0,
-        y: 0,
-        z: 0,
-    };
+    let a = no_atom();
+    let l = no_literal();
     let atoms = [a; MOST_ATOMS];
     let literals = [l; MOST_LITERALS];
     Clause {

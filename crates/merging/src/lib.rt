@@ -27,6 +27,7 @@ use clauses::counted;
 use clauses::ground;
 use clauses::in_atom;
 use clauses::in_literal;
+use clauses::no_atom;
 use clauses::no_instanced;
 use clauses::no_literal;
 use clauses::same_atom;
@@ -70,7 +71,7 @@ pub struct Reason {
 fn no_atoms() -> Atoms
     ensures { λ r. ⌜ r ≡ heldAtoms [] ⌝ }
 {
-    let a = Atom { p: 0, q: 0, c: 0 };
+    let a = no_atom();
     let at = [a; BOTH_ATOMS];
     Atoms { n: 0, at: at }
 }
@@ -78,13 +79,7 @@ fn no_atoms() -> Atoms
 fn no_literals() -> Literals
     ensures { λ r. ⌜ r ≡ heldLiterals [] ⌝ }
 {
-    let l = Literal {
-        positive: false,
-        predicate: 0,
-        x: 0,
-        y: 0,
-        z: 0,
-    };
+    let l = no_literal();
     let at = [l; BOTH_LITERALS];
     Literals { n: 0, at: at }
 }
@@ -433,7 +428,7 @@ fn closed_atoms(l: Atoms, ks: Names) -> [Atom; MOST_ATOMS]
     ensures { λ r. ⌜ r ≡ exactly mostAtoms noAtom (map (renameAtom (closed (namesIn ks))) (atomsIn l)) ⌝ }
 {
     let n = count_atoms(l);
-    let blank = Atom { p: 0, q: 0, c: 0 };
+    let blank = no_atom();
     let mut out = [blank; MOST_ATOMS];
     let mut j: usize = 0;
     while j < n {
@@ -450,13 +445,7 @@ fn closed_literals(l: Literals, ks: Names) -> [Literal; MOST_LITERALS]
     ensures { λ r. ⌜ r ≡ exactly mostLiterals noLiteral (map (renameLiteral (closed (namesIn ks))) (literalsIn l)) ⌝ }
 {
     let n = count_literals(l);
-    let blank = Literal {
-        positive: false,
-        predicate: 0,
-        x: 0,
-        y: 0,
-        z: 0,
-    };
+    let blank = no_literal();
     let mut out = [blank; MOST_LITERALS];
     let mut j: usize = 0;
     while j < n {

@@ -22,8 +22,11 @@ abbrev μ-loop : tie.MeasureT-loop
 clause-atoms-requires : tie.Need-clause-atoms-requires Inv-loop μ-loop
 clause-atoms-requires c κs = search needs
 
+no-atom-requires : tie.Need-no-atom-requires Inv-loop μ-loop
+no-atom-requires c κs = search needs
+
 loop-holds : tie.Need-loop-holds Inv-loop μ-loop
-loop-holds c = (omega arith, sym (exactly-none noAtom 24))
+loop-holds c = (omega arith, rw (c .no-atom .ensures) (sym (exactly-none noAtom 24)))
 
 mul-a : tie.Need-mul-a Inv-loop μ-loop
 mul-a c = search needs
@@ -45,13 +48,13 @@ loop-less c = search needs
 
 loop-again : tie.Need-loop-again Inv-loop μ-loop
 loop-again c =
-    let a = c .before .before .before .before .args in
+    let a = c .before .before .before .before .before .args in
     let s = c .before .before .loop in
     (omega arith, ap (λ (l : List Atom). set l (s .j) (getD (a .t1 .atoms) (s .j) noAtom)) (s .inv .1) ∙ copied-turn 24 noAtom (a .t1 .atoms) (s .j) (omega arith) (omega arith))
 
 returns : tie.Need-returns Inv-loop μ-loop
 returns c =
-    let a = c .before .before .before .args in
+    let a = c .before .before .before .before .args in
     let e : c .before .loop .j ≡ a .t1 .atomcount = omega arith in
     let h : a .t1 .atomcount ≤ length (a .t1 .atoms) = omega arith in
     rw e at (c .before .loop .inv .1) ∙ ap (exactly 24 noAtom) (sym (exactly-take noAtom (a .t1 .atomcount) (a .t1 .atoms) h))
@@ -63,6 +66,7 @@ clean-atoms-spec =
     Inv-loop
     μ-loop
     clause-atoms-requires
+    no-atom-requires
     loop-holds
     mul-a
     element-copy-out-a

@@ -23,8 +23,11 @@ abbrev μ-loop : tie.MeasureT-loop
 clause-literals-requires : tie.Need-clause-literals-requires Inv-loop μ-loop
 clause-literals-requires c κs = search needs
 
+no-literal-requires : tie.Need-no-literal-requires Inv-loop μ-loop
+no-literal-requires c κs = search needs
+
 loop-holds : tie.Need-loop-holds Inv-loop μ-loop
-loop-holds c = (omega arith, sym (exactly-none noLiteral 8))
+loop-holds c = (omega arith, rw (c .no-literal .ensures) (sym (exactly-none noLiteral 8)))
 
 mul-l : tie.Need-mul-l Inv-loop μ-loop
 mul-l c = search needs
@@ -49,7 +52,7 @@ loop-less c = search needs
 
 loop-again : tie.Need-loop-again Inv-loop μ-loop
 loop-again c =
-    let a = c .before .before .before .before .before .args in
+    let a = c .before .before .before .before .before .before .args in
     let s = c .before .before .before .loop in (
       omega arith,
       ap₂ (λ (l : List Literal) (x : Literal). set l (s .j) x) (s .inv .1) (c .clean-literal .ensures)
@@ -58,7 +61,7 @@ loop-again c =
 
 returns : tie.Need-returns Inv-loop μ-loop
 returns c =
-    let a = c .before .before .before .args in
+    let a = c .before .before .before .before .args in
     let e : c .before .loop .j ≡ a .t3 .literalcount = omega arith in
     let h : a .t3 .literalcount ≤ length (a .t3 .literals) = omega arith in
     rw e at (c .before .loop .inv .1) ∙ ap (λ (l : List Literal). exactly 8 noLiteral (map (cleaned (offeredArities (a .predicates) (a .arities))) l)) (sym (exactly-take noLiteral (a .t3 .literalcount) (a .t3 .literals) h))
@@ -70,6 +73,7 @@ clean-literals-spec =
     Inv-loop
     μ-loop
     clause-literals-requires
+    no-literal-requires
     loop-holds
     mul-l
     element-copy-out-l
