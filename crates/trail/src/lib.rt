@@ -6,7 +6,7 @@ ghost use mathlib.Core.List.{[], _++_};
 ghost use mathlib.Core.Bool.{false, _&&_, cond};
 ghost use Prim.Native.Nat.{suc, _-_, _≤_, _<_};
 ghost use lib.ListN.{length, getD, take};
-ghost use Rattle.basis.specs.Limits.{mostVariables, mostAtoms, mostLiterals, mostEntries, mostTested};
+ghost use Rattle.basis.specs.Limits.{mostVariables, mostLiterals, mostEntries, mostTested};
 ghost use Rattle.lists.specs.Arrays.{exactly};
 ghost use Rattle.lists.specs.Lists.{anyOf};
 ghost use Rattle.calculus.specs.Clauses.{noLiteral, sameLiteral, groundAtoms};
@@ -14,21 +14,23 @@ ghost use Rattle.calculus.specs.Clauses as calculus;
 ghost use Rattle.calculus.specs.Trails.{isLiteral, isAtom, isDecision, levelOf, largestLevel, atomsOf, foreground, background, propagated, decided};
 ghost use Rattle.calculus.specs.Trails as trails;
 ghost use Rattle.calculus.specs.Rules.{otherInstances, backLevel, propagatedTrail};
+ghost use Rattle.clauses.specs.Counts.{Counts};
 ghost use Rattle.clauses.specs.Records.{clauseOf, instancedOf};
 ghost use Rattle.trail.specs.Entries.{noEntry, entryOf, trailOf, packedTrail, Stored, Held, Recorded};
-ghost use Rattle.trail.specs.Answers.{Counts, isAbout, passes, firstNumber, Listed, Grew, isBackground, Gathers, together, SaysPossible};
+ghost use Rattle.trail.specs.Answers.{isAbout, passes, firstNumber, Listed, Grew, isBackground, Gathers, together, SaysPossible};
 use basis::Atom;
 use basis::Literal;
-use basis::MOST_ATOMS;
 use basis::MOST_ENTRIES;
 use basis::MOST_LITERALS;
 use basis::MOST_TESTED;
 use basis::MOST_VARIABLES;
 use clauses::Clause;
 use clauses::Instanced;
+use clauses::atoms_of;
 use clauses::complement;
 use clauses::ground;
 use clauses::ground_atom;
+use clauses::literals_of;
 use clauses::no_atom;
 use clauses::no_literal;
 use clauses::same_atom;
@@ -176,28 +178,6 @@ pub fn undefined(trail: [Entry; MOST_ENTRIES], length: u8, l: Literal) -> bool
 }
 
 // ---- parts of a clause
-
-// How many literals the record counts, and no more than it has room for
-pub fn literals_of(c: Clause) -> usize
-    ensures { λ r. ⌜ Counts (c .literals) mostLiterals (c .literalcount) r ⌝ }
-{
-    let n = c.literalcount as usize;
-    if n < MOST_LITERALS {
-        return n;
-    }
-    MOST_LITERALS
-}
-
-// How many atoms the record counts, and no more than it has room for
-pub fn atoms_of(c: Clause) -> usize
-    ensures { λ r. ⌜ Counts (c .atoms) mostAtoms (c .atomcount) r ⌝ }
-{
-    let n = c.atomcount as usize;
-    if n < MOST_ATOMS {
-        return n;
-    }
-    MOST_ATOMS
-}
 
 // The place of a number, from 0
 pub fn place_of(l: u8) -> usize

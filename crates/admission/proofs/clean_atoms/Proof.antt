@@ -19,8 +19,8 @@ Inv-loop c n out₀ j₀ out j = (j ≤ n) × (out ≡ exactly 24 noAtom (take j
 abbrev μ-loop : tie.MeasureT-loop
 μ-loop c n out₀ j₀ out j = n - j
 
-clause-atoms-requires : tie.Need-clause-atoms-requires Inv-loop μ-loop
-clause-atoms-requires c κs = search needs
+atoms-of-requires : tie.Need-atoms-of-requires Inv-loop μ-loop
+atoms-of-requires c κs = search needs
 
 no-atom-requires : tie.Need-no-atom-requires Inv-loop μ-loop
 no-atom-requires c κs = search needs
@@ -55,9 +55,10 @@ loop-again c =
 returns : tie.Need-returns Inv-loop μ-loop
 returns c =
     let a = c .before .before .before .before .args in
-    let e : c .before .loop .j ≡ a .t1 .atomcount = omega arith in
+    let n = c .before .before .before .atoms-of in
+    let e : c .before .loop .j ≡ n .result = omega arith in
     let h : a .t1 .atomcount ≤ length (a .t1 .atoms) = omega arith in
-    rw e at (c .before .loop .inv .1) ∙ ap (exactly 24 noAtom) (sym (exactly-take noAtom (a .t1 .atomcount) (a .t1 .atoms) h))
+    rw e at (c .before .loop .inv .1) ∙ ap (exactly 24 noAtom) (n .ensures .same ∙ sym (exactly-take noAtom (a .t1 .atomcount) (a .t1 .atoms) h))
 
 pub clean-atoms-spec : {M : Type 1} → statement M
 clean-atoms-spec =
@@ -65,7 +66,7 @@ clean-atoms-spec =
     (tie.spec
     Inv-loop
     μ-loop
-    clause-atoms-requires
+    atoms-of-requires
     no-atom-requires
     loop-holds
     mul-a
