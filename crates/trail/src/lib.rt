@@ -279,26 +279,6 @@ fn either(first: bool, a: u8, b: u8) -> u8
     b
 }
 
-// "The level of a trail literal, shared by its complement, is the number of decisions up to and including it."
-pub fn level_of(trail: [Entry; MOST_ENTRIES], length: u8, l: Literal) -> u8
-    requires { ⌜ length ≤ mostEntries ⌝ }
-    ensures { λ r. ⌜ r ≡ levelOf l (trailOf trail length) ⌝ }
-{
-    let n = length as usize;
-    let mut decisions = 0;
-    let mut level = 0;
-    let mut k = 0;
-    while k < n {
-        let e = trail[k];
-        let here = decisions_with(e, decisions);
-        let about = is_about(e, l);
-        level = either(about, here, level);
-        decisions = here;
-        k += 1;
-    }
-    level
-}
-
 // The instances of the conflict's literals but the one with number l: D
 pub fn other_instances(n: Instanced, l: u8) -> Instances
     ensures { λ r. ⌜ Listed r (otherInstances (instancedOf n) l) ⌝ }
@@ -371,6 +351,19 @@ pub fn largest_level(trail: [Entry; MOST_ENTRIES], length: u8, d: Instances) -> 
         k += 1;
     }
     level
+}
+
+// "The level of a trail literal, shared by its complement, is the number of decisions up to and including it." So it is the largest where
+// there is no other literal.
+pub fn level_of(trail: [Entry; MOST_ENTRIES], length: u8, l: Literal) -> u8
+    requires { ⌜ length ≤ mostEntries ⌝ }
+    ensures { λ r. ⌜ r ≡ levelOf l (trailOf trail length) ⌝ }
+{
+    let blank = no_literal();
+    let mut at = [blank; MOST_LITERALS];
+    at[0] = l;
+    let d = Instances { count: 1, at: at };
+    largest_level(trail, length, d)
 }
 
 // "i is the largest level in D, 0 if D is empty."
