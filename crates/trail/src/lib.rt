@@ -455,19 +455,9 @@ pub fn first_constants(instance: [u8; MOST_VARIABLES], count: u8) -> [u8; MOST_V
 fn background_entry(a: Atom) -> Entry
     ensures { λ r. ⌜ Recorded r (background a) ⌝ }
 {
-    let literal = no_literal();
-    let instance = [0u8; MOST_VARIABLES];
-    let kind = Kind::Background;
-    Entry {
-        kind: kind,
-        atom: a,
-        literal: literal,
-        clause: 0,
-        number: 0,
-        sign: false,
-        count: 0,
-        instance: instance,
-    }
+    let mut e = no_entry();
+    e.atom = a;
+    e
 }
 
 fn propagated_entry(
