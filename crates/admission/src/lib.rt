@@ -4,7 +4,6 @@ ghost use mathlib.Core.Bool.{_||_, _&&_, cond};
 ghost use mathlib.Core.List.{[]};
 ghost use Prim.Native.Nat.{_-_, _≤_};
 ghost use lib.Dec.{eqb, leb, ltb};
-ghost use lib.ListN.{length};
 ghost use Rattle.basis.specs.Limits.{mostAtoms, mostLiterals, mostInput, mostPredicates, mostArguments};
 ghost use Rattle.basis.specs.Atoms.{noAtom};
 ghost use Rattle.lists.specs.Lists.{anyOf, allOf, upFrom};
@@ -30,10 +29,14 @@ use basis::MOST_PREDICATES;
 use basis::OCCURS_NOWHERE;
 use basis::OUT_OF_RANGE;
 use clauses::Clause;
+use clauses::atoms_of;
 use clauses::counted;
 use clauses::in_atom;
 use clauses::in_literal;
+use clauses::literals_of;
+use clauses::no_atom;
 use clauses::no_clause;
+use clauses::no_literal;
 
 // The refusal's number, 0 for none, and the clause as it was read; a refused one is handed back blank.
 pub struct ClauseAnswer {
@@ -46,19 +49,6 @@ pub struct TableAnswer {
     pub number: u8,
     pub place: u8,
     pub clauses: [Clause; MOST_INPUT],
-}
-
-// That the clause's arrays are whole
-fn clause_atoms(c: Clause) -> usize
-    ensures { λ r. ⌜ (r ≡ c .atomcount) × (length (c .atoms) ≡ mostAtoms) ⌝ }
-{
-    c.atomcount as usize
-}
-
-fn clause_literals(c: Clause) -> usize
-    ensures { λ r. ⌜ (r ≡ c .literalcount) × (length (c .literals) ≡ mostLiterals) ⌝ }
-{
-    c.literalcount as usize
 }
 
 // ---- reading a record
@@ -119,14 +109,8 @@ fn clean_literals(
     requires { ⌜ c .literalcount ≤ mostLiterals ⌝ }
     ensures { λ r. ⌜ r ≡ exactly mostLiterals noLiteral (offered (offeredArities predicates arities) c .literals) ⌝ }
 {
-    let n = clause_literals(c);
-    let blank = Literal {
-        positive: false,
-        predicate: 0,
-        x: 0,
-        y: 0,
-        z: 0,
-    };
+    let n = literals_of(c);
+    let blank = no_literal();
     let mut out = [blank; MOST_LITERALS];
     let mut j: usize = 0;
     while j < n {
@@ -142,8 +126,8 @@ fn clean_atoms(c: Clause) -> [Atom; MOST_ATOMS]
     requires { ⌜ c .atomcount ≤ mostAtoms ⌝ }
     ensures { λ r. ⌜ r ≡ exactly mostAtoms noAtom (exactly (c .atomcount) noAtom (c .atoms)) ⌝ }
 {
-    let n = clause_atoms(c);
-    let blank = Atom { p: 0, q: 0, c: 0 };
+    let n = atoms_of(c);
+    let blank = no_atom();
     let mut out = [blank; MOST_ATOMS];
     let mut j: usize = 0;
     while j < n {
@@ -191,10 +175,9 @@ fn proper_atom(v: u8, a: Atom) -> bool
 }
 
 fn proper_atoms(c: Clause) -> bool
-    requires { ⌜ c .atomcount ≤ mostAtoms ⌝ }
     ensures { λ r. ⌜ r ≡ allOf (properAtom (c .variables)) (clauseOf c .atoms) ⌝ }
 {
-    let n = clause_atoms(c);
+    let n = atoms_of(c);
     let mut j: usize = 0;
     while j < n {
         let a = c.atoms[j];
@@ -239,10 +222,9 @@ fn proper_literal(predicates: u8, arities: [u8; MOST_PREDICATES], v: u8, l: Lite
 }
 
 fn proper_literals(predicates: u8, arities: [u8; MOST_PREDICATES], c: Clause) -> bool
-    requires { ⌜ c .literalcount ≤ mostLiterals ⌝ }
     ensures { λ r. ⌜ r ≡ allOf (properLiteral (offeredArities predicates arities) (c .variables)) (clauseOf c .literals) ⌝ }
 {
-    let n = clause_literals(c);
+    let n = literals_of(c);
     let mut j: usize = 0;
     while j < n {
         let l = c.literals[j];
@@ -257,10 +239,9 @@ fn proper_literals(predicates: u8, arities: [u8; MOST_PREDICATES], c: Clause) ->
 // ---- refusal 5
 
 fn in_atoms(c: Clause, x: u8) -> bool
-    requires { ⌜ c .atomcount ≤ mostAtoms ⌝ }
     ensures { λ r. ⌜ r ≡ anyOf (λ a. eqb x (a .p) || eqb x (a .q)) (clauseOf c .atoms) ⌝ }
 {
-    let n = clause_atoms(c);
+    let n = atoms_of(c);
     let mut j: usize = 0;
     while j < n {
         let a = c.atoms[j];
@@ -273,10 +254,9 @@ fn in_atoms(c: Clause, x: u8) -> bool
 }
 
 fn in_literals(c: Clause, x: u8) -> bool
-    requires { ⌜ c .literalcount ≤ mostLiterals ⌝ }
     ensures { λ r. ⌜ r ≡ anyOf (λ m. anyOf (eqb x) (arguments m)) (clauseOf c .literals) ⌝ }
 {
-    let n = clause_literals(c);
+    let n = literals_of(c);
     let mut j: usize = 0;
     while j < n {
         let l = c.literals[j];
@@ -289,7 +269,6 @@ fn in_literals(c: Clause, x: u8) -> bool
 }
 
 fn occurs(c: Clause, x: u8) -> bool
-    requires { ⌜ Counted c ⌝ }
     ensures { λ r. ⌜ r ≡ occursIn (clauseOf c .atoms) (clauseOf c .literals) x ⌝ }
 {
     if in_atoms(c, x) {
@@ -299,7 +278,6 @@ fn occurs(c: Clause, x: u8) -> bool
 }
 
 fn all_occur(c: Clause) -> bool
-    requires { ⌜ Counted c ⌝ }
     ensures { λ r. ⌜ r ≡ allOf (occursIn (clauseOf c .atoms) (clauseOf c .literals)) (upFrom 1 (c .variables)) ⌝ }
 {
     let v = c.variables;
@@ -327,10 +305,9 @@ fn is_between(a: Atom, p: u8, q: u8) -> bool
 
 // Whether the clause has an atom with these places
 fn has_between(c: Clause, p: u8, q: u8) -> bool
-    requires { ⌜ c .atomcount ≤ mostAtoms ⌝ }
     ensures { λ r. ⌜ r ≡ anyOf (λ a. eqb (a .p) p && eqb (a .q) q) (clauseOf c .atoms) ⌝ }
 {
-    let n = clause_atoms(c);
+    let n = atoms_of(c);
     let mut j: usize = 0;
     while j < n {
         let a = c.atoms[j];
@@ -344,7 +321,6 @@ fn has_between(c: Clause, p: u8, q: u8) -> bool
 
 // "an atom bounding it above (x, 0, c) and one bounding it below (0, x, c)"
 fn is_bounded(c: Clause, x: u8) -> bool
-    requires { ⌜ c .atomcount ≤ mostAtoms ⌝ }
     ensures { λ r. ⌜ r ≡ bounded (clauseOf c .atoms) x ⌝ }
 {
     if !has_between(c, x, 0) {
@@ -355,7 +331,6 @@ fn is_bounded(c: Clause, x: u8) -> bool
 
 // Where the atom has two variables, both are bounded.
 fn difference_bounded(c: Clause, a: Atom) -> bool
-    requires { ⌜ c .atomcount ≤ mostAtoms ⌝ }
     ensures { λ r. ⌜ r ≡ (eqb (a .p) 0 || (eqb (a .q) 0 || (bounded (clauseOf c .atoms) (a .p) && bounded (clauseOf c .atoms) (a .q)))) ⌝ }
 {
     if a.p == 0 {
@@ -371,10 +346,9 @@ fn difference_bounded(c: Clause, a: Atom) -> bool
 }
 
 fn differences_bounded(c: Clause) -> bool
-    requires { ⌜ c .atomcount ≤ mostAtoms ⌝ }
     ensures { λ r. ⌜ r ≡ differencesBounded (clauseOf c .atoms) ⌝ }
 {
-    let n = clause_atoms(c);
+    let n = atoms_of(c);
     let mut j: usize = 0;
     while j < n {
         let a = c.atoms[j];

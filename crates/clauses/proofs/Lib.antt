@@ -1,2 +1,3 @@
 -- Laws of the records, and the proofs of the functions.
 pub mod Records
+pub mod Counts

@@ -1,2 +1,3 @@
 -- Clause records as the calculus's clauses.
 pub mod Records
+pub mod Counts

@@ -4,10 +4,12 @@ ghost use mathlib.Core.Path.{_≡_};
 ghost use mathlib.Core.Bool.{_||_};
 ghost use lib.Dec.{eqb};
 ghost use lib.ListN.{take};
+ghost use Rattle.basis.specs.Limits.{mostAtoms, mostLiterals};
 ghost use Rattle.basis.specs.Atoms.{noAtom};
 ghost use Rattle.lists.specs.Lists.{anyOf};
 ghost use Rattle.calculus.specs.Clauses.{arguments, noLiteral, noClause, noInstanced, sameAtom, sameLiteral, renameAtom, under};
 ghost use Rattle.calculus.specs.Clauses as calculus;
+ghost use Rattle.clauses.specs.Counts.{Counts};
 ghost use Rattle.clauses.specs.Records.{packed, packedInstanced};
 ghost use Rattle.clauses.specs.Records as records;
 use basis::Atom;
@@ -55,14 +57,8 @@ pub fn no_literal() -> Literal
 pub fn no_clause() -> Clause
     ensures { λ r. ⌜ r ≡ packed noClause ⌝ }
 {
-    let a = Atom { p: 0, q: 0, c: 0 };
-    let l = Literal {
-        positive: false,
-        predicate: 0,
-        x: 0,
-        y: 0,
-        z: 0,
-    };
+    let a = no_atom();
+    let l = no_literal();
     let atoms = [a; MOST_ATOMS];
     let literals = [l; MOST_LITERALS];
     Clause {
@@ -207,4 +203,26 @@ pub fn counted(c: Clause) -> bool
         return false;
     }
     c.literalcount as usize <= MOST_LITERALS
+}
+
+// How many literals the record counts, and no more than it has room for
+pub fn literals_of(c: Clause) -> usize
+    ensures { λ r. ⌜ Counts (c .literals) mostLiterals (c .literalcount) r ⌝ }
+{
+    let n = c.literalcount as usize;
+    if n < MOST_LITERALS {
+        return n;
+    }
+    MOST_LITERALS
+}
+
+// How many atoms the record counts, and no more than it has room for
+pub fn atoms_of(c: Clause) -> usize
+    ensures { λ r. ⌜ Counts (c .atoms) mostAtoms (c .atomcount) r ⌝ }
+{
+    let n = c.atomcount as usize;
+    if n < MOST_ATOMS {
+        return n;
+    }
+    MOST_ATOMS
 }

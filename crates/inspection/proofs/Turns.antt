@@ -7,8 +7,8 @@ use native.Mathlib.Omega.{arith}
 use lib.ListN.{length, take, getD}
 use lib.Seq.{length-take-le}
 use Rattle.lists.proofs.Walks.{take-more}
-use Rattle.trail.specs.Answers.{Counts}
-use Rattle.trail.proofs.Counts.{counted-length}
+use Rattle.clauses.specs.Counts.{Counts}
+use Rattle.clauses.proofs.Counts.{counted-length}
 use Rattle.text.specs.Text.{Wrote}
 use Rattle.text.proofs.Text.{and-then, as-text}
 use Rattle.inspection.specs.StateText.{inTurn, apart}

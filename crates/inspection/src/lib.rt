@@ -7,8 +7,8 @@ ghost use lib.ListN.{length, take};
 ghost use Rattle.basis.specs.Limits.{mostVariables, mostAtoms, mostLiterals, mostEntries, mostClauses};
 ghost use Rattle.lists.specs.Arrays.{exactly};
 ghost use Rattle.calculus.specs.Clauses.{arguments};
+ghost use Rattle.clauses.specs.Counts.{Counts};
 ghost use Rattle.clauses.specs.Records.{clauseOf};
-ghost use Rattle.trail.specs.Answers.{Counts};
 ghost use Rattle.trail.specs.Entries.{entryOf};
 ghost use Rattle.text.specs.Text.{decimal};
 ghost use Rattle.inspection.specs.StateText.{inTurn, apart, numberText, tupleText, atomText, untilZero, signText, literalText, stepText, entryText, entryLine, listedAtom, listedLiteral, clauseText, clauseLine, firstLine, conflictText, conflictLine};
@@ -20,6 +20,8 @@ use basis::MOST_ENTRIES;
 use basis::MOST_VARIABLES;
 use clauses::Clause;
 use clauses::Instanced;
+use clauses::atoms_of;
+use clauses::literals_of;
 use rules::Run;
 use text::put_byte;
 use text::put_decimal;
@@ -27,9 +29,7 @@ use text::put_signed;
 use text::put_word;
 use trail::Entry;
 use trail::Kind;
-use trail::atoms_of;
 use trail::constants_of;
-use trail::literals_of;
 
 // No state's text has more bytes.
 pub const MOST_STATE: usize = 82070;

@@ -23,10 +23,13 @@ use basis::MOST_LITERALS;
 use basis::MOST_VARIABLES;
 use clauses::Clause;
 use clauses::Instanced;
+use clauses::atoms_of;
 use clauses::counted;
 use clauses::ground;
 use clauses::in_atom;
 use clauses::in_literal;
+use clauses::literals_of;
+use clauses::no_atom;
 use clauses::no_instanced;
 use clauses::no_literal;
 use clauses::same_atom;
@@ -70,7 +73,7 @@ pub struct Reason {
 fn no_atoms() -> Atoms
     ensures { λ r. ⌜ r ≡ heldAtoms [] ⌝ }
 {
-    let a = Atom { p: 0, q: 0, c: 0 };
+    let a = no_atom();
     let at = [a; BOTH_ATOMS];
     Atoms { n: 0, at: at }
 }
@@ -78,13 +81,7 @@ fn no_atoms() -> Atoms
 fn no_literals() -> Literals
     ensures { λ r. ⌜ r ≡ heldLiterals [] ⌝ }
 {
-    let l = Literal {
-        positive: false,
-        predicate: 0,
-        x: 0,
-        y: 0,
-        z: 0,
-    };
+    let l = no_literal();
     let at = [l; BOTH_LITERALS];
     Literals { n: 0, at: at }
 }
@@ -113,18 +110,6 @@ fn count_names(l: Names) -> usize
     ensures { λ r. ⌜ (r ≡ l .n) × (length (l .at) ≡ bothVariables) ⌝ }
 {
     l.n
-}
-
-fn clause_atoms(c: Clause) -> usize
-    ensures { λ r. ⌜ (r ≡ c .atomcount) × (length (c .atoms) ≡ mostAtoms) ⌝ }
-{
-    c.atomcount as usize
-}
-
-fn clause_literals(c: Clause) -> usize
-    ensures { λ r. ⌜ (r ≡ c .literalcount) × (length (c .literals) ≡ mostLiterals) ⌝ }
-{
-    c.literalcount as usize
 }
 
 // What the table has for variable x of a clause whose variables follow v others
@@ -257,10 +242,10 @@ fn has_atom(l: Atoms, b: Atom) -> bool
 
 // The atoms of c by the table, its variables following v others, each put after those of l where it is new
 fn append_atoms(l: Atoms, c: Clause, v: u8, t: [u8; BOTH_VARIABLES]) -> Atoms
-    requires { ⌜ (l ≡ heldAtoms (atomsIn l)) × (l .n ≤ mostAtoms) × (c .atomcount ≤ mostAtoms) ⌝ }
+    requires { ⌜ (l ≡ heldAtoms (atomsIn l)) × (l .n ≤ mostAtoms) ⌝ }
     ensures { λ r. ⌜ r ≡ heldAtoms (addEach (atomsIn l) (map (renameAtom (through t v)) (clauseOf c .atoms))) ⌝ }
 {
-    let n = clause_atoms(c);
+    let n = atoms_of(c);
     let mut out = l;
     let mut j: usize = 0;
     while j < n {
@@ -279,10 +264,10 @@ fn append_atoms(l: Atoms, c: Clause, v: u8, t: [u8; BOTH_VARIABLES]) -> Atoms
 
 // The literals of c but the one at i, by the table, its variables following v others, after those of l
 fn append_literals(l: Literals, c: Clause, i: usize, v: u8, t: [u8; BOTH_VARIABLES]) -> Literals
-    requires { ⌜ (l ≡ heldLiterals (literalsIn l)) × (l .n ≤ mostLiterals) × (c .literalcount ≤ mostLiterals) ⌝ }
+    requires { ⌜ (l ≡ heldLiterals (literalsIn l)) × (l .n ≤ mostLiterals) ⌝ }
     ensures { λ r. ⌜ r ≡ heldLiterals (literalsIn l ++ map (renameLiteral (through t v)) (without i (clauseOf c .literals))) ⌝ }
 {
-    let n = clause_literals(c);
+    let n = literals_of(c);
     let mut out = l;
     let mut j: usize = 0;
     while j < n {
@@ -433,7 +418,7 @@ fn closed_atoms(l: Atoms, ks: Names) -> [Atom; MOST_ATOMS]
     ensures { λ r. ⌜ r ≡ exactly mostAtoms noAtom (map (renameAtom (closed (namesIn ks))) (atomsIn l)) ⌝ }
 {
     let n = count_atoms(l);
-    let blank = Atom { p: 0, q: 0, c: 0 };
+    let blank = no_atom();
     let mut out = [blank; MOST_ATOMS];
     let mut j: usize = 0;
     while j < n {
@@ -450,13 +435,7 @@ fn closed_literals(l: Literals, ks: Names) -> [Literal; MOST_LITERALS]
     ensures { λ r. ⌜ r ≡ exactly mostLiterals noLiteral (map (renameLiteral (closed (namesIn ks))) (literalsIn l)) ⌝ }
 {
     let n = count_literals(l);
-    let blank = Literal {
-        positive: false,
-        predicate: 0,
-        x: 0,
-        y: 0,
-        z: 0,
-    };
+    let blank = no_literal();
     let mut out = [blank; MOST_LITERALS];
     let mut j: usize = 0;
     while j < n {
@@ -533,10 +512,9 @@ fn close_up(v: usize, az: Atoms, ls: Literals, t: [u8; BOTH_VARIABLES]) -> Merge
 
 // The literal of c at j, from 0; the blank one past the last
 fn literal_at(c: Clause, j: usize) -> Literal
-    requires { ⌜ c .literalcount ≤ mostLiterals ⌝ }
     ensures { λ r. ⌜ r ≡ getD (clauseOf c .literals) j noLiteral ⌝ }
 {
-    let n = clause_literals(c);
+    let n = literals_of(c);
     if j < n {
         let l = c.literals[j];
         return l;
@@ -545,14 +523,12 @@ fn literal_at(c: Clause, j: usize) -> Literal
 }
 
 fn first_atoms(c: Clause, t: [u8; BOTH_VARIABLES]) -> Atoms
-    requires { ⌜ c .atomcount ≤ mostAtoms ⌝ }
     ensures { λ r. ⌜ r ≡ heldAtoms (distinct (map (renameAtom (under t)) (clauseOf c .atoms))) ⌝ }
 {
     append_atoms(no_atoms(), c, 0, t)
 }
 
 fn first_literals(c: Clause, i: usize, t: [u8; BOTH_VARIABLES]) -> Literals
-    requires { ⌜ c .literalcount ≤ mostLiterals ⌝ }
     ensures { λ r. ⌜ r ≡ heldLiterals (map (renameLiteral (under t)) (without i (clauseOf c .literals))) ⌝ }
 {
     append_literals(no_literals(), c, i, 0, t)
@@ -567,7 +543,7 @@ fn first_names(a: [u8; MOST_VARIABLES], u: u8) -> Names
 
 // The atoms of both clauses, the second's variables following the first's v
 fn both_atoms(c: Clause, d: Clause, v: u8, t: [u8; BOTH_VARIABLES]) -> Atoms
-    requires { ⌜ (c .atomcount ≤ mostAtoms) × (d .atomcount ≤ mostAtoms) ⌝ }
+    requires { ⌜ c .atomcount ≤ mostAtoms ⌝ }
     ensures { λ r. ⌜ r ≡ heldAtoms (distinct (map (renameAtom (under t)) (clauseOf c .atoms ++ map (renameAtom (apart v)) (clauseOf d .atoms)))) ⌝ }
 {
     append_atoms(first_atoms(c, t), d, v, t)
@@ -582,7 +558,7 @@ fn both_literals(
     v: u8,
     t: [u8; BOTH_VARIABLES],
 ) -> Literals
-    requires { ⌜ (c .literalcount ≤ mostLiterals) × (d .literalcount ≤ mostLiterals) ⌝ }
+    requires { ⌜ c .literalcount ≤ mostLiterals ⌝ }
     ensures { λ r. ⌜ r ≡ heldLiterals (map (renameLiteral (under t)) (without j (clauseOf c .literals) ++ map (renameLiteral (apart v)) (without i (clauseOf d .literals)))) ⌝ }
 {
     append_literals(first_literals(c, j, t), d, i, v, t)
@@ -683,10 +659,9 @@ fn joined_own(
     g: Literal,
     t: [u8; BOTH_VARIABLES],
 ) -> [u8; BOTH_VARIABLES]
-    requires { ⌜ c .literalcount ≤ mostLiterals ⌝ }
     ensures { λ r. ⌜ r ≡ joins (ownPairs (take (c .variables) tau) g l (clauseOf c .literals)) t ⌝ }
 {
-    let n = clause_literals(c);
+    let n = literals_of(c);
     let v = c.variables;
     let mut out = t;
     let mut j: usize = 0;
@@ -709,10 +684,9 @@ fn reason_literals(
     i: usize,
     t: [u8; BOTH_VARIABLES],
 ) -> Literals
-    requires { ⌜ c .literalcount ≤ mostLiterals ⌝ }
     ensures { λ r. ⌜ r ≡ heldLiterals (map (renameLiteral (under t)) (reasonLiterals (take (c .variables) tau) g i (clauseOf c .literals))) ⌝ }
 {
-    let n = clause_literals(c);
+    let n = literals_of(c);
     let v = c.variables;
     let mut out = no_literals();
     let mut j: usize = 0;
@@ -747,10 +721,9 @@ fn least(a: usize, b: usize) -> usize
 
 // Where the literal at i then stands
 fn own_index(c: Clause, tau: [u8; MOST_VARIABLES], g: Literal, i: usize) -> usize
-    requires { ⌜ c .literalcount ≤ mostLiterals ⌝ }
     ensures { λ r. ⌜ r ≡ ownIndex (take (c .variables) tau) g i (clauseOf c .literals) ⌝ }
 {
-    let n = clause_literals(c);
+    let n = literals_of(c);
     let v = c.variables;
     let end = least(i, n);
     let mut k: usize = 0;

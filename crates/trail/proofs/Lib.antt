@@ -1,6 +1,5 @@
 -- Laws of stored trails and of the walks over them, and the proofs of the functions.
 pub mod Walks
-pub mod Counts
 pub mod NotFalse
 pub mod Stored
 pub mod Atoms

@@ -10,7 +10,8 @@ use lib.Seq.{getD-take, length-take-le, take-length, take-take}
 use Rattle.basis.specs.declared.Literal.{Literal}
 use Rattle.lists.proofs.Walks.{allOf-and, allOf-fails}
 use Rattle.lists.specs.Lists.{allOf}
-use Rattle.trail.specs.Answers.{Counts, firstNumber, passes}
+use Rattle.clauses.specs.Counts.{Counts}
+use Rattle.trail.specs.Answers.{firstNumber, passes}
 use Rattle.calculus.specs.Clauses.{complement, ground, noLiteral, sameLiteral}
 use Rattle.calculus.specs.Rules.{firstFailing}
 use Rattle.calculus.specs.Trails.{Trail, onTrail}

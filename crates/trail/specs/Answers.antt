@@ -21,16 +21,6 @@ use Rattle.trail.specs.declared.Instances.{Instances}
 use Rattle.trail.specs.declared.Tested.{Tested}
 use Rattle.trail.specs.Entries.{Stored}
 
--- r is the count n of an array with room for `most`, and no more than that.
-pub record Counts {A : Type 0} (l : List A) (most n r : ℕ) : Type 0 where
-  pub long : length l ≡ most
-  pub few : r ≤ most
-  pub same : take r l ≡ take n l
-
--- Such a number is unique. Proved in proofs/Counts.antt.
-abbrev pub CountsOnce : Type 1
-CountsOnce = (A : Type 0) (l : List A) (most n r q : ℕ) → Counts l most n r → Counts l most n q → r ≡ q
-
 -- The entry is the literal or its complement.
 abbrev pub isAbout : Literal → Entry → Bool
 isAbout l e = isLiteral l e || isLiteral (complement l) e

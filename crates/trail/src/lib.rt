@@ -6,7 +6,7 @@ ghost use mathlib.Core.List.{[], _++_};
 ghost use mathlib.Core.Bool.{false, _&&_, cond};
 ghost use Prim.Native.Nat.{suc, _-_, _≤_, _<_};
 ghost use lib.ListN.{length, getD, take};
-ghost use Rattle.basis.specs.Limits.{mostVariables, mostAtoms, mostLiterals, mostEntries, mostTested};
+ghost use Rattle.basis.specs.Limits.{mostVariables, mostLiterals, mostEntries, mostTested};
 ghost use Rattle.lists.specs.Arrays.{exactly};
 ghost use Rattle.lists.specs.Lists.{anyOf};
 ghost use Rattle.calculus.specs.Clauses.{noLiteral, sameLiteral, groundAtoms};
@@ -14,21 +14,23 @@ ghost use Rattle.calculus.specs.Clauses as calculus;
 ghost use Rattle.calculus.specs.Trails.{isLiteral, isAtom, isDecision, levelOf, largestLevel, atomsOf, foreground, background, propagated, decided};
 ghost use Rattle.calculus.specs.Trails as trails;
 ghost use Rattle.calculus.specs.Rules.{otherInstances, backLevel, propagatedTrail};
+ghost use Rattle.clauses.specs.Counts.{Counts};
 ghost use Rattle.clauses.specs.Records.{clauseOf, instancedOf};
 ghost use Rattle.trail.specs.Entries.{noEntry, entryOf, trailOf, packedTrail, Stored, Held, Recorded};
-ghost use Rattle.trail.specs.Answers.{Counts, isAbout, passes, firstNumber, Listed, Grew, isBackground, Gathers, together, SaysPossible};
+ghost use Rattle.trail.specs.Answers.{isAbout, passes, firstNumber, Listed, Grew, isBackground, Gathers, together, SaysPossible};
 use basis::Atom;
 use basis::Literal;
-use basis::MOST_ATOMS;
 use basis::MOST_ENTRIES;
 use basis::MOST_LITERALS;
 use basis::MOST_TESTED;
 use basis::MOST_VARIABLES;
 use clauses::Clause;
 use clauses::Instanced;
+use clauses::atoms_of;
 use clauses::complement;
 use clauses::ground;
 use clauses::ground_atom;
+use clauses::literals_of;
 use clauses::no_atom;
 use clauses::no_literal;
 use clauses::same_atom;
@@ -177,28 +179,6 @@ pub fn undefined(trail: [Entry; MOST_ENTRIES], length: u8, l: Literal) -> bool
 
 // ---- parts of a clause
 
-// How many literals the record counts, and no more than it has room for
-pub fn literals_of(c: Clause) -> usize
-    ensures { λ r. ⌜ Counts (c .literals) mostLiterals (c .literalcount) r ⌝ }
-{
-    let n = c.literalcount as usize;
-    if n < MOST_LITERALS {
-        return n;
-    }
-    MOST_LITERALS
-}
-
-// How many atoms the record counts, and no more than it has room for
-pub fn atoms_of(c: Clause) -> usize
-    ensures { λ r. ⌜ Counts (c .atoms) mostAtoms (c .atomcount) r ⌝ }
-{
-    let n = c.atomcount as usize;
-    if n < MOST_ATOMS {
-        return n;
-    }
-    MOST_ATOMS
-}
-
 // The place of a number, from 0
 pub fn place_of(l: u8) -> usize
     ensures { λ r. ⌜ r ≡ l - 1 ⌝ }
@@ -299,26 +279,6 @@ fn either(first: bool, a: u8, b: u8) -> u8
     b
 }
 
-// "The level of a trail literal, shared by its complement, is the number of decisions up to and including it."
-pub fn level_of(trail: [Entry; MOST_ENTRIES], length: u8, l: Literal) -> u8
-    requires { ⌜ length ≤ mostEntries ⌝ }
-    ensures { λ r. ⌜ r ≡ levelOf l (trailOf trail length) ⌝ }
-{
-    let n = length as usize;
-    let mut decisions = 0;
-    let mut level = 0;
-    let mut k = 0;
-    while k < n {
-        let e = trail[k];
-        let here = decisions_with(e, decisions);
-        let about = is_about(e, l);
-        level = either(about, here, level);
-        decisions = here;
-        k += 1;
-    }
-    level
-}
-
 // The instances of the conflict's literals but the one with number l: D
 pub fn other_instances(n: Instanced, l: u8) -> Instances
     ensures { λ r. ⌜ Listed r (otherInstances (instancedOf n) l) ⌝ }
@@ -391,6 +351,19 @@ pub fn largest_level(trail: [Entry; MOST_ENTRIES], length: u8, d: Instances) -> 
         k += 1;
     }
     level
+}
+
+// "The level of a trail literal, shared by its complement, is the number of decisions up to and including it." So it is the largest where
+// there is no other literal.
+pub fn level_of(trail: [Entry; MOST_ENTRIES], length: u8, l: Literal) -> u8
+    requires { ⌜ length ≤ mostEntries ⌝ }
+    ensures { λ r. ⌜ r ≡ levelOf l (trailOf trail length) ⌝ }
+{
+    let blank = no_literal();
+    let mut at = [blank; MOST_LITERALS];
+    at[0] = l;
+    let d = Instances { count: 1, at: at };
+    largest_level(trail, length, d)
 }
 
 // "i is the largest level in D, 0 if D is empty."
@@ -482,19 +455,9 @@ pub fn first_constants(instance: [u8; MOST_VARIABLES], count: u8) -> [u8; MOST_V
 fn background_entry(a: Atom) -> Entry
     ensures { λ r. ⌜ Recorded r (background a) ⌝ }
 {
-    let literal = no_literal();
-    let instance = [0u8; MOST_VARIABLES];
-    let kind = Kind::Background;
-    Entry {
-        kind: kind,
-        atom: a,
-        literal: literal,
-        clause: 0,
-        number: 0,
-        sign: false,
-        count: 0,
-        instance: instance,
-    }
+    let mut e = no_entry();
+    e.atom = a;
+    e
 }
 
 fn propagated_entry(

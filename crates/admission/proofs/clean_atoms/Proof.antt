@@ -19,11 +19,14 @@ Inv-loop c n out₀ j₀ out j = (j ≤ n) × (out ≡ exactly 24 noAtom (take j
 abbrev μ-loop : tie.MeasureT-loop
 μ-loop c n out₀ j₀ out j = n - j
 
-clause-atoms-requires : tie.Need-clause-atoms-requires Inv-loop μ-loop
-clause-atoms-requires c κs = search needs
+atoms-of-requires : tie.Need-atoms-of-requires Inv-loop μ-loop
+atoms-of-requires c κs = search needs
+
+no-atom-requires : tie.Need-no-atom-requires Inv-loop μ-loop
+no-atom-requires c κs = search needs
 
 loop-holds : tie.Need-loop-holds Inv-loop μ-loop
-loop-holds c = (omega arith, sym (exactly-none noAtom 24))
+loop-holds c = (omega arith, rw (c .no-atom .ensures) (sym (exactly-none noAtom 24)))
 
 mul-a : tie.Need-mul-a Inv-loop μ-loop
 mul-a c = search needs
@@ -45,16 +48,17 @@ loop-less c = search needs
 
 loop-again : tie.Need-loop-again Inv-loop μ-loop
 loop-again c =
-    let a = c .before .before .before .before .args in
+    let a = c .before .before .before .before .before .args in
     let s = c .before .before .loop in
     (omega arith, ap (λ (l : List Atom). set l (s .j) (getD (a .t1 .atoms) (s .j) noAtom)) (s .inv .1) ∙ copied-turn 24 noAtom (a .t1 .atoms) (s .j) (omega arith) (omega arith))
 
 returns : tie.Need-returns Inv-loop μ-loop
 returns c =
-    let a = c .before .before .before .args in
-    let e : c .before .loop .j ≡ a .t1 .atomcount = omega arith in
+    let a = c .before .before .before .before .args in
+    let n = c .before .before .before .atoms-of in
+    let e : c .before .loop .j ≡ n .result = omega arith in
     let h : a .t1 .atomcount ≤ length (a .t1 .atoms) = omega arith in
-    rw e at (c .before .loop .inv .1) ∙ ap (exactly 24 noAtom) (sym (exactly-take noAtom (a .t1 .atomcount) (a .t1 .atoms) h))
+    rw e at (c .before .loop .inv .1) ∙ ap (exactly 24 noAtom) (n .ensures .same ∙ sym (exactly-take noAtom (a .t1 .atomcount) (a .t1 .atoms) h))
 
 pub clean-atoms-spec : {M : Type 1} → statement M
 clean-atoms-spec =
@@ -62,7 +66,8 @@ clean-atoms-spec =
     (tie.spec
     Inv-loop
     μ-loop
-    clause-atoms-requires
+    atoms-of-requires
+    no-atom-requires
     loop-holds
     mul-a
     element-copy-out-a

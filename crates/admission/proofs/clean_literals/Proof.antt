@@ -20,11 +20,14 @@ Inv-loop predicates arities c n out₀ j₀ out j = (j ≤ n) × (out ≡ exactl
 abbrev μ-loop : tie.MeasureT-loop
 μ-loop predicates arities c n out₀ j₀ out j = n - j
 
-clause-literals-requires : tie.Need-clause-literals-requires Inv-loop μ-loop
-clause-literals-requires c κs = search needs
+literals-of-requires : tie.Need-literals-of-requires Inv-loop μ-loop
+literals-of-requires c κs = search needs
+
+no-literal-requires : tie.Need-no-literal-requires Inv-loop μ-loop
+no-literal-requires c κs = search needs
 
 loop-holds : tie.Need-loop-holds Inv-loop μ-loop
-loop-holds c = (omega arith, sym (exactly-none noLiteral 8))
+loop-holds c = (omega arith, rw (c .no-literal .ensures) (sym (exactly-none noLiteral 8)))
 
 mul-l : tie.Need-mul-l Inv-loop μ-loop
 mul-l c = search needs
@@ -49,7 +52,7 @@ loop-less c = search needs
 
 loop-again : tie.Need-loop-again Inv-loop μ-loop
 loop-again c =
-    let a = c .before .before .before .before .before .args in
+    let a = c .before .before .before .before .before .before .args in
     let s = c .before .before .before .loop in (
       omega arith,
       ap₂ (λ (l : List Literal) (x : Literal). set l (s .j) x) (s .inv .1) (c .clean-literal .ensures)
@@ -58,10 +61,11 @@ loop-again c =
 
 returns : tie.Need-returns Inv-loop μ-loop
 returns c =
-    let a = c .before .before .before .args in
-    let e : c .before .loop .j ≡ a .t3 .literalcount = omega arith in
+    let a = c .before .before .before .before .args in
+    let n = c .before .before .before .literals-of in
+    let e : c .before .loop .j ≡ n .result = omega arith in
     let h : a .t3 .literalcount ≤ length (a .t3 .literals) = omega arith in
-    rw e at (c .before .loop .inv .1) ∙ ap (λ (l : List Literal). exactly 8 noLiteral (map (cleaned (offeredArities (a .predicates) (a .arities))) l)) (sym (exactly-take noLiteral (a .t3 .literalcount) (a .t3 .literals) h))
+    rw e at (c .before .loop .inv .1) ∙ ap (λ (l : List Literal). exactly 8 noLiteral (map (cleaned (offeredArities (a .predicates) (a .arities))) l)) (n .ensures .same ∙ sym (exactly-take noLiteral (a .t3 .literalcount) (a .t3 .literals) h))
 
 pub clean-literals-spec : {M : Type 1} → statement M
 clean-literals-spec =
@@ -69,7 +73,8 @@ clean-literals-spec =
     (tie.spec
     Inv-loop
     μ-loop
-    clause-literals-requires
+    literals-of-requires
+    no-literal-requires
     loop-holds
     mul-l
     element-copy-out-l

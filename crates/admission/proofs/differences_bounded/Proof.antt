@@ -14,6 +14,7 @@ use Rattle.lists.specs.Lists.{allOf}
 use Rattle.lists.proofs.Walks.{allOf-and, allOf-fails}
 use Rattle.calculus.specs.Class.{bounded}
 use Rattle.clauses.specs.Records.{clauseOf}
+use Rattle.clauses.proofs.Counts.{counted-within}
 use Rattle.admission.proofs.differences_bounded.Statement.{statement}
 use Rattle.admission.proofs.differences_bounded.Tie as tie
 
@@ -23,8 +24,8 @@ Inv-loop c n j₀ j = (j ≤ n) × (allOf (λ a. eqb (a .p) 0 || (eqb (a .q) 0 |
 abbrev μ-loop : tie.MeasureT-loop
 μ-loop c n j₀ j = n - j
 
-clause-atoms-requires : tie.Need-clause-atoms-requires Inv-loop μ-loop
-clause-atoms-requires c κs = search needs
+atoms-of-requires : tie.Need-atoms-of-requires Inv-loop μ-loop
+atoms-of-requires c κs = search needs
 
 loop-holds : tie.Need-loop-holds Inv-loop μ-loop
 loop-holds c = (omega arith, refl)
@@ -42,7 +43,7 @@ returns : tie.Need-returns Inv-loop μ-loop
 returns c =
     let a = c .before .before .before .before .before .before .args in
     let p : Atom → Bool = λ b. eqb (b .p) 0 || (eqb (b .q) 0 || (bounded (clauseOf (a .t1) .atoms) (b .p) && bounded (clauseOf (a .t1) .atoms) (b .q))) in
-    sym (allOf-fails p (a .t1 .atoms) (c .before .before .before .before .loop .j) (a .t1 .atomcount) noAtom (omega arith) (omega arith) (sym (c .before .difference-bounded .ensures) ∙ not-true (c .before .difference-bounded .result) (c .if1 .taken)))
+    sym (allOf-fails p (a .t1 .atoms) (c .before .before .before .before .loop .j) (a .t1 .atomcount) noAtom (omega (arith, counted-within (c .before .before .before .before .before .atoms-of .ensures))) (omega arith) (sym (c .before .difference-bounded .ensures) ∙ not-true (c .before .difference-bounded .result) (c .if1 .taken)))
 
 add-j : tie.Need-add-j Inv-loop μ-loop
 add-j c = search needs
@@ -57,9 +58,7 @@ loop-again c =
     (omega arith, allOf-and p (a .t1 .atoms) (c .before .before .before .before .loop .j) noAtom (omega arith) (c .before .before .before .before .loop .inv .1) (sym (c .before .difference-bounded .ensures) ∙ not-false (c .before .difference-bounded .result) (c .if1 .left)))
 
 returns-2 : tie.Need-returns-2 Inv-loop μ-loop
-returns-2 c =
-    let a = c .before .before .before .args in
-    let e : c .before .loop .j ≡ a .t1 .atomcount = omega arith in rw e at (sym (c .before .loop .inv .1))
+returns-2 c = let n = c .before .before .atoms-of in let e : c .before .loop .j ≡ n .result = omega arith in rw (e, n .ensures .same) at (sym (c .before .loop .inv .1))
 
 pub differences-bounded-spec : {M : Type 1} → statement M
 differences-bounded-spec =
@@ -67,7 +66,7 @@ differences-bounded-spec =
     (tie.spec
     Inv-loop
     μ-loop
-    clause-atoms-requires
+    atoms-of-requires
     loop-holds
     mul-a
     element-copy-out-a

@@ -10,6 +10,7 @@ use borrow.Author.Needs.{needs}
 use Rattle.basis.specs.Atoms.{noAtom}
 use Rattle.lists.specs.Lists.{anyOf}
 use Rattle.lists.proofs.Walks.{anyOf-not, anyOf-found}
+use Rattle.clauses.proofs.Counts.{counted-within}
 use Rattle.admission.proofs.has_between.Statement.{statement}
 use Rattle.admission.proofs.has_between.Tie as tie
 
@@ -19,8 +20,8 @@ Inv-loop p q c n j₀ j = (j ≤ n) × (anyOf (λ a. eqb (a .p) p && eqb (a .q) 
 abbrev μ-loop : tie.MeasureT-loop
 μ-loop p q c n j₀ j = n - j
 
-clause-atoms-requires : tie.Need-clause-atoms-requires Inv-loop μ-loop
-clause-atoms-requires c κs = search needs
+atoms-of-requires : tie.Need-atoms-of-requires Inv-loop μ-loop
+atoms-of-requires c κs = search needs
 
 loop-holds : tie.Need-loop-holds Inv-loop μ-loop
 loop-holds c = (omega arith, refl)
@@ -35,7 +36,7 @@ is-between-requires : tie.Need-is-between-requires Inv-loop μ-loop
 is-between-requires c κs = search needs
 
 returns : tie.Need-returns Inv-loop μ-loop
-returns c = let a = c .before .before .before .before .before .before .args in sym (anyOf-found (λ b. eqb (b .p) (a .p) && eqb (b .q) (a .q)) (a .t1 .atoms) (c .before .before .before .before .loop .j) (a .t1 .atomcount) noAtom (omega arith) (omega arith) (sym (c .before .is-between .ensures) ∙ c .if1 .taken))
+returns c = let a = c .before .before .before .before .before .before .args in sym (anyOf-found (λ b. eqb (b .p) (a .p) && eqb (b .q) (a .q)) (a .t1 .atoms) (c .before .before .before .before .loop .j) (a .t1 .atomcount) noAtom (omega (arith, counted-within (c .before .before .before .before .before .atoms-of .ensures))) (omega arith) (sym (c .before .is-between .ensures) ∙ c .if1 .taken))
 
 add-j : tie.Need-add-j Inv-loop μ-loop
 add-j c = search needs
@@ -47,7 +48,7 @@ loop-again : tie.Need-loop-again Inv-loop μ-loop
 loop-again c = let a = c .before .before .before .before .before .before .args in (omega arith, anyOf-not (λ b. eqb (b .p) (a .p) && eqb (b .q) (a .q)) (a .t1 .atoms) (c .before .before .before .before .loop .j) noAtom (omega arith) (c .before .before .before .before .loop .inv .1) (sym (c .before .is-between .ensures) ∙ c .if1 .left))
 
 returns-2 : tie.Need-returns-2 Inv-loop μ-loop
-returns-2 c = let e : c .before .loop .j ≡ c .before .before .before .args .t1 .atomcount = omega arith in rw e at (sym (c .before .loop .inv .1))
+returns-2 c = let n = c .before .before .atoms-of in let e : c .before .loop .j ≡ n .result = omega arith in rw (e, n .ensures .same) at (sym (c .before .loop .inv .1))
 
 pub has-between-spec : {M : Type 1} → statement M
 has-between-spec =
@@ -55,7 +56,7 @@ has-between-spec =
     (tie.spec
     Inv-loop
     μ-loop
-    clause-atoms-requires
+    atoms-of-requires
     loop-holds
     mul-a
     element-copy-out-a

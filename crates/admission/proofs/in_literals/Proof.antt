@@ -10,6 +10,7 @@ use borrow.Author.Needs.{needs}
 use Rattle.lists.specs.Lists.{anyOf}
 use Rattle.lists.proofs.Walks.{anyOf-not, anyOf-found}
 use Rattle.calculus.specs.Clauses.{arguments, noLiteral}
+use Rattle.clauses.proofs.Counts.{counted-within}
 use Rattle.admission.proofs.in_literals.Statement.{statement}
 use Rattle.admission.proofs.in_literals.Tie as tie
 
@@ -19,8 +20,8 @@ Inv-loop x c n j₀ j = (j ≤ n) × (anyOf (λ m. anyOf (eqb x) (arguments m)) 
 abbrev μ-loop : tie.MeasureT-loop
 μ-loop x c n j₀ j = n - j
 
-clause-literals-requires : tie.Need-clause-literals-requires Inv-loop μ-loop
-clause-literals-requires c κs = search needs
+literals-of-requires : tie.Need-literals-of-requires Inv-loop μ-loop
+literals-of-requires c κs = search needs
 
 loop-holds : tie.Need-loop-holds Inv-loop μ-loop
 loop-holds c = (omega arith, refl)
@@ -35,7 +36,7 @@ in-literal-requires : tie.Need-in-literal-requires Inv-loop μ-loop
 in-literal-requires c κs = search needs
 
 returns : tie.Need-returns Inv-loop μ-loop
-returns c = let a = c .before .before .before .before .before .before .args in sym (anyOf-found (λ m. anyOf (eqb (a .x)) (arguments m)) (a .t1 .literals) (c .before .before .before .before .loop .j) (a .t1 .literalcount) noLiteral (omega arith) (omega arith) (sym (c .before .in-literal .ensures) ∙ c .if1 .taken))
+returns c = let a = c .before .before .before .before .before .before .args in sym (anyOf-found (λ m. anyOf (eqb (a .x)) (arguments m)) (a .t1 .literals) (c .before .before .before .before .loop .j) (a .t1 .literalcount) noLiteral (omega (arith, counted-within (c .before .before .before .before .before .literals-of .ensures))) (omega arith) (sym (c .before .in-literal .ensures) ∙ c .if1 .taken))
 
 add-j : tie.Need-add-j Inv-loop μ-loop
 add-j c = search needs
@@ -47,7 +48,7 @@ loop-again : tie.Need-loop-again Inv-loop μ-loop
 loop-again c = let a = c .before .before .before .before .before .before .args in (omega arith, anyOf-not (λ m. anyOf (eqb (a .x)) (arguments m)) (a .t1 .literals) (c .before .before .before .before .loop .j) noLiteral (omega arith) (c .before .before .before .before .loop .inv .1) (sym (c .before .in-literal .ensures) ∙ c .if1 .left))
 
 returns-2 : tie.Need-returns-2 Inv-loop μ-loop
-returns-2 c = let e : c .before .loop .j ≡ c .before .before .before .args .t1 .literalcount = omega arith in rw e at (sym (c .before .loop .inv .1))
+returns-2 c = let n = c .before .before .literals-of in let e : c .before .loop .j ≡ n .result = omega arith in rw (e, n .ensures .same) at (sym (c .before .loop .inv .1))
 
 pub in-literals-spec : {M : Type 1} → statement M
 in-literals-spec =
@@ -55,7 +56,7 @@ in-literals-spec =
     (tie.spec
     Inv-loop
     μ-loop
-    clause-literals-requires
+    literals-of-requires
     loop-holds
     mul-l
     element-copy-out-l

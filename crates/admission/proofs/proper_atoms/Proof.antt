@@ -11,6 +11,7 @@ use Rattle.basis.specs.Atoms.{noAtom}
 use Rattle.lists.specs.Lists.{allOf}
 use Rattle.lists.proofs.Walks.{allOf-and, allOf-fails}
 use Rattle.calculus.specs.Class.{properAtom}
+use Rattle.clauses.proofs.Counts.{counted-within}
 use Rattle.admission.proofs.proper_atoms.Statement.{statement}
 use Rattle.admission.proofs.proper_atoms.Tie as tie
 
@@ -20,8 +21,8 @@ Inv-loop c n j₀ j = (j ≤ n) × (allOf (properAtom (c .variables)) (take j (c
 abbrev μ-loop : tie.MeasureT-loop
 μ-loop c n j₀ j = n - j
 
-clause-atoms-requires : tie.Need-clause-atoms-requires Inv-loop μ-loop
-clause-atoms-requires c κs = search needs
+atoms-of-requires : tie.Need-atoms-of-requires Inv-loop μ-loop
+atoms-of-requires c κs = search needs
 
 loop-holds : tie.Need-loop-holds Inv-loop μ-loop
 loop-holds c = (omega arith, refl)
@@ -36,7 +37,7 @@ proper-atom-requires : tie.Need-proper-atom-requires Inv-loop μ-loop
 proper-atom-requires c κs = search needs
 
 returns : tie.Need-returns Inv-loop μ-loop
-returns c = let a = c .before .before .before .before .before .before .args in sym (allOf-fails (properAtom (a .t1 .variables)) (a .t1 .atoms) (c .before .before .before .before .loop .j) (a .t1 .atomcount) noAtom (omega arith) (omega arith) (sym (c .before .proper-atom .ensures) ∙ not-true (c .before .proper-atom .result) (c .if1 .taken)))
+returns c = let a = c .before .before .before .before .before .before .args in sym (allOf-fails (properAtom (a .t1 .variables)) (a .t1 .atoms) (c .before .before .before .before .loop .j) (a .t1 .atomcount) noAtom (omega (arith, counted-within (c .before .before .before .before .before .atoms-of .ensures))) (omega arith) (sym (c .before .proper-atom .ensures) ∙ not-true (c .before .proper-atom .result) (c .if1 .taken)))
 
 add-j : tie.Need-add-j Inv-loop μ-loop
 add-j c = search needs
@@ -48,7 +49,7 @@ loop-again : tie.Need-loop-again Inv-loop μ-loop
 loop-again c = let a = c .before .before .before .before .before .before .args in (omega arith, allOf-and (properAtom (a .t1 .variables)) (a .t1 .atoms) (c .before .before .before .before .loop .j) noAtom (omega arith) (c .before .before .before .before .loop .inv .1) (sym (c .before .proper-atom .ensures) ∙ not-false (c .before .proper-atom .result) (c .if1 .left)))
 
 returns-2 : tie.Need-returns-2 Inv-loop μ-loop
-returns-2 c = let e : c .before .loop .j ≡ c .before .before .before .args .t1 .atomcount = omega arith in rw e at (sym (c .before .loop .inv .1))
+returns-2 c = let n = c .before .before .atoms-of in let e : c .before .loop .j ≡ n .result = omega arith in rw (e, n .ensures .same) at (sym (c .before .loop .inv .1))
 
 pub proper-atoms-spec : {M : Type 1} → statement M
 proper-atoms-spec =
@@ -56,7 +57,7 @@ proper-atoms-spec =
     (tie.spec
     Inv-loop
     μ-loop
-    clause-atoms-requires
+    atoms-of-requires
     loop-holds
     mul-a
     element-copy-out-a

@@ -12,6 +12,7 @@ use Rattle.lists.proofs.Walks.{allOf-and, allOf-fails}
 use Rattle.calculus.specs.Clauses.{noLiteral}
 use Rattle.calculus.specs.Class.{properLiteral}
 use Rattle.admission.specs.Offered.{offeredArities}
+use Rattle.clauses.proofs.Counts.{counted-within}
 use Rattle.admission.proofs.proper_literals.Statement.{statement}
 use Rattle.admission.proofs.proper_literals.Tie as tie
 
@@ -21,8 +22,8 @@ Inv-loop predicates arities c n j₀ j = (j ≤ n) × (allOf (properLiteral (off
 abbrev μ-loop : tie.MeasureT-loop
 μ-loop predicates arities c n j₀ j = n - j
 
-clause-literals-requires : tie.Need-clause-literals-requires Inv-loop μ-loop
-clause-literals-requires c κs = search needs
+literals-of-requires : tie.Need-literals-of-requires Inv-loop μ-loop
+literals-of-requires c κs = search needs
 
 loop-holds : tie.Need-loop-holds Inv-loop μ-loop
 loop-holds c = (omega arith, refl)
@@ -37,7 +38,7 @@ proper-literal-requires : tie.Need-proper-literal-requires Inv-loop μ-loop
 proper-literal-requires c κs = search needs
 
 returns : tie.Need-returns Inv-loop μ-loop
-returns c = let a = c .before .before .before .before .before .before .args in sym (allOf-fails (properLiteral (offeredArities (a .predicates) (a .arities)) (a .t3 .variables)) (a .t3 .literals) (c .before .before .before .before .loop .j) (a .t3 .literalcount) noLiteral (omega arith) (omega arith) (sym (c .before .proper-literal .ensures) ∙ not-true (c .before .proper-literal .result) (c .if1 .taken)))
+returns c = let a = c .before .before .before .before .before .before .args in sym (allOf-fails (properLiteral (offeredArities (a .predicates) (a .arities)) (a .t3 .variables)) (a .t3 .literals) (c .before .before .before .before .loop .j) (a .t3 .literalcount) noLiteral (omega (arith, counted-within (c .before .before .before .before .before .literals-of .ensures))) (omega arith) (sym (c .before .proper-literal .ensures) ∙ not-true (c .before .proper-literal .result) (c .if1 .taken)))
 
 add-j : tie.Need-add-j Inv-loop μ-loop
 add-j c = search needs
@@ -49,7 +50,7 @@ loop-again : tie.Need-loop-again Inv-loop μ-loop
 loop-again c = let a = c .before .before .before .before .before .before .args in (omega arith, allOf-and (properLiteral (offeredArities (a .predicates) (a .arities)) (a .t3 .variables)) (a .t3 .literals) (c .before .before .before .before .loop .j) noLiteral (omega arith) (c .before .before .before .before .loop .inv .1) (sym (c .before .proper-literal .ensures) ∙ not-false (c .before .proper-literal .result) (c .if1 .left)))
 
 returns-2 : tie.Need-returns-2 Inv-loop μ-loop
-returns-2 c = let e : c .before .loop .j ≡ c .before .before .before .args .t3 .literalcount = omega arith in rw e at (sym (c .before .loop .inv .1))
+returns-2 c = let n = c .before .before .literals-of in let e : c .before .loop .j ≡ n .result = omega arith in rw (e, n .ensures .same) at (sym (c .before .loop .inv .1))
 
 pub proper-literals-spec : {M : Type 1} → statement M
 proper-literals-spec =
@@ -57,7 +58,7 @@ proper-literals-spec =
     (tie.spec
     Inv-loop
     μ-loop
-    clause-literals-requires
+    literals-of-requires
     loop-holds
     mul-l
     element-copy-out-l

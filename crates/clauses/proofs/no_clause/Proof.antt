@@ -1,13 +1,19 @@
 -- `clauses::no_clause` meets its contract.
 -- What the search leaves follows from the tests passed and from what the calls ensure.
-use mathlib.Core.Path.{refl}
+use borrow.Author.Needs.{needs}
 use Rattle.lists.specs.Arrays.{exactly}
 use Rattle.clauses.proofs.no_clause.Statement.{statement}
 use Rattle.clauses.proofs.no_clause.Tie as tie
 
+no-atom-requires : tie.Need-no-atom-requires
+no-atom-requires c κs = search needs
+
+no-literal-requires : tie.Need-no-literal-requires
+no-literal-requires c κs = search needs
+
 returns : tie.Need-returns
 unfolding exactly
-returns c = refl
+returns c = cc
 
 pub no-clause-spec : {M : Type 1} → statement M
-no-clause-spec = tie.close (tie.spec returns)
+no-clause-spec = tie.close (tie.spec no-atom-requires no-literal-requires returns)

@@ -1,6 +1,6 @@
 -- The count, or the room that there is.
 use borrow.Author.Needs.{needs}
-use Rattle.trail.proofs.Counts.{counted-most}
+use Rattle.clauses.proofs.Counts.{counted-most}
 use Rattle.inspection.proofs.clauses_of.Statement.{statement}
 use Rattle.inspection.proofs.clauses_of.Tie as tie
 

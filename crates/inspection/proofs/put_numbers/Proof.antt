@@ -2,7 +2,7 @@
 use Prim.Native.Nat.{_≤_, _-_, _+_}
 use native.Mathlib.Omega.{arith}
 use borrow.Author.Needs.{needs}
-use Rattle.trail.proofs.Counts.{counted-length}
+use Rattle.clauses.proofs.Counts.{counted-length}
 use Rattle.inspection.specs.StateText.{numberText}
 use Rattle.inspection.specs.Writing.{mostNumber}
 use Rattle.inspection.proofs.Turns.{Turned, turned-counted, turned-more, turned-none}

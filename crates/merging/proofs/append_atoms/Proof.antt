@@ -22,8 +22,8 @@ Inv-loop v t c n out₀ j₀ out j = (j ≤ n) × (out .n ≤ 24 + j) × (out �
 abbrev μ-loop : tie.MeasureT-loop
 μ-loop v t c n out₀ j₀ out j = n - j
 
-clause-atoms-requires : tie.Need-clause-atoms-requires Inv-loop μ-loop
-clause-atoms-requires c κs = search needs
+atoms-of-requires : tie.Need-atoms-of-requires Inv-loop μ-loop
+atoms-of-requires c κs = search needs
 
 loop-holds : tie.Need-loop-holds Inv-loop μ-loop
 loop-holds c = (omega arith, omega arith, c .before .pre .0)
@@ -69,7 +69,7 @@ loop-again c =
     (omega arith, omega (arith, ap (λ (l : Atoms). l .n) e, atoms-short (atomsIn (a .l)) (renameAtom (through (a .t) (a .v))) (a .t2 .atoms) (s .loop .j + 1)), e)
 
 returns : tie.Need-returns Inv-loop μ-loop
-returns c = let e : c .before .loop .j ≡ c .before .before .before .args .t2 .atomcount = omega arith in rw e at (c .before .loop .inv .2)
+returns c = let n = c .before .before .atoms-of in let e : c .before .loop .j ≡ n .result = omega arith in rw (e, n .ensures .same) at (c .before .loop .inv .2)
 
 pub append-atoms-spec : {M : Type 1} → statement M
 append-atoms-spec =
@@ -77,7 +77,7 @@ append-atoms-spec =
     (tie.spec
     Inv-loop
     μ-loop
-    clause-atoms-requires
+    atoms-of-requires
     loop-holds
     mul-a
     element-copy-out-a

@@ -24,8 +24,8 @@ Inv-loop i v t c n out₀ j₀ out j = (j ≤ n) × (out .n ≤ 8 + j) × (out �
 abbrev μ-loop : tie.MeasureT-loop
 μ-loop i v t c n out₀ j₀ out j = n - j
 
-clause-literals-requires : tie.Need-clause-literals-requires Inv-loop μ-loop
-clause-literals-requires c κs = search needs
+literals-of-requires : tie.Need-literals-of-requires Inv-loop μ-loop
+literals-of-requires c κs = search needs
 
 loop-holds : tie.Need-loop-holds Inv-loop μ-loop
 loop-holds c = (omega arith, omega arith, c .before .pre .0 ∙ ap heldLiterals (sym (append-nil (literalsIn (c .before .args .l)))))
@@ -67,7 +67,7 @@ loop-again c =
     (omega arith, omega (arith, ap (λ (l : Literals). l .n) e, literals-short (literalsIn (a .l)) (renameLiteral (through (a .t) (a .v))) (a .i) (a .t2 .literals) (s .loop .j + 1)), e)
 
 returns : tie.Need-returns Inv-loop μ-loop
-returns c = let e : c .before .loop .j ≡ c .before .before .before .args .t2 .literalcount = omega arith in rw e at (c .before .loop .inv .2)
+returns c = let n = c .before .before .literals-of in let e : c .before .loop .j ≡ n .result = omega arith in rw (e, n .ensures .same) at (c .before .loop .inv .2)
 
 pub append-literals-spec : {M : Type 1} → statement M
 append-literals-spec =
@@ -75,7 +75,7 @@ append-literals-spec =
     (tie.spec
     Inv-loop
     μ-loop
-    clause-literals-requires
+    literals-of-requires
     loop-holds
     mul-a
     element-copy-out-a

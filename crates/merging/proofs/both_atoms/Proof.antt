@@ -23,7 +23,6 @@ append-atoms-requires c κs =
     let f = renameAtom (under (a .t)) in (
       atoms-held (distinct (map f xs)) (omega (arith, distinct-short (map f xs), length-map xs f, length-take (a .c .atomcount) (a .c .atoms))) (c .first-atoms .ensures),
       atoms-few f xs 24 (c .first-atoms .ensures) (omega (arith, length-take (a .c .atomcount) (a .c .atoms))),
-      search needs,
     )
 
 returns : tie.Need-returns

@@ -24,7 +24,6 @@ append-literals-requires c κs =
     let f = renameLiteral (under (a .t)) in (
       literals-held (map f xs) (omega (arith, length-map xs f, without-short (a .j) ls, length-take (a .c .literalcount) (a .c .literals))) (c .first-literals .ensures),
       literals-few f xs 8 (c .first-literals .ensures) (omega (arith, without-short (a .j) ls, length-take (a .c .literalcount) (a .c .literals))),
-      search needs,
     )
 
 returns : tie.Need-returns

@@ -24,8 +24,11 @@ abbrev μ-loop : tie.MeasureT-loop
 count-atoms-requires : tie.Need-count-atoms-requires Inv-loop μ-loop
 count-atoms-requires c κs = search needs
 
+no-atom-requires : tie.Need-no-atom-requires Inv-loop μ-loop
+no-atom-requires c κs = search needs
+
 loop-holds : tie.Need-loop-holds Inv-loop μ-loop
-loop-holds c = (omega arith, sym (exactly-none noAtom 24))
+loop-holds c = (omega arith, rw (c .no-atom .ensures) (sym (exactly-none noAtom 24)))
 
 mul-a : tie.Need-mul-a Inv-loop μ-loop
 mul-a c = search needs
@@ -51,14 +54,14 @@ loop-less c = search needs
 loop-again : tie.Need-loop-again Inv-loop μ-loop
 loop-again c =
     let s = c .before .before .before in
-    let a = c .before .before .before .before .before .args in (
+    let a = c .before .before .before .before .before .before .args in (
       omega arith,
       ap₂ (λ (l : List Atom) (x : Atom). set l (s .loop .j) x) (s .loop .inv .1) (c .closed-atom .ensures)
           ∙ mapped-turn (renameAtom (closed (namesIn (a .ks)))) 24 noAtom noAtom (a .t1 .at) (s .loop .j) (omega arith) (omega arith),
     )
 
 returns : tie.Need-returns Inv-loop μ-loop
-returns c = let e : c .before .loop .j ≡ c .before .before .before .args .t1 .n = omega arith in rw e at (c .before .loop .inv .1)
+returns c = let e : c .before .loop .j ≡ c .before .before .before .before .args .t1 .n = omega arith in rw e at (c .before .loop .inv .1)
 
 pub closed-atoms-spec : {M : Type 1} → statement M
 closed-atoms-spec =
@@ -67,6 +70,7 @@ closed-atoms-spec =
     Inv-loop
     μ-loop
     count-atoms-requires
+    no-atom-requires
     loop-holds
     mul-a
     element-copy-out-a

@@ -23,8 +23,11 @@ abbrev μ-loop : tie.MeasureT-loop
 count-literals-requires : tie.Need-count-literals-requires Inv-loop μ-loop
 count-literals-requires c κs = search needs
 
+no-literal-requires : tie.Need-no-literal-requires Inv-loop μ-loop
+no-literal-requires c κs = search needs
+
 loop-holds : tie.Need-loop-holds Inv-loop μ-loop
-loop-holds c = (omega arith, sym (exactly-none noLiteral 8))
+loop-holds c = (omega arith, rw (c .no-literal .ensures) (sym (exactly-none noLiteral 8)))
 
 mul-a : tie.Need-mul-a Inv-loop μ-loop
 mul-a c = search needs
@@ -50,14 +53,14 @@ loop-less c = search needs
 loop-again : tie.Need-loop-again Inv-loop μ-loop
 loop-again c =
     let s = c .before .before .before in
-    let a = c .before .before .before .before .before .args in (
+    let a = c .before .before .before .before .before .before .args in (
       omega arith,
       ap₂ (λ (l : List Literal) (x : Literal). set l (s .loop .j) x) (s .loop .inv .1) (c .closed-literal .ensures)
           ∙ mapped-turn (renameLiteral (closed (namesIn (a .ks)))) 8 noLiteral noLiteral (a .t1 .at) (s .loop .j) (omega arith) (omega arith),
     )
 
 returns : tie.Need-returns Inv-loop μ-loop
-returns c = let e : c .before .loop .j ≡ c .before .before .before .args .t1 .n = omega arith in rw e at (c .before .loop .inv .1)
+returns c = let e : c .before .loop .j ≡ c .before .before .before .before .args .t1 .n = omega arith in rw e at (c .before .loop .inv .1)
 
 pub closed-literals-spec : {M : Type 1} → statement M
 closed-literals-spec =
@@ -66,6 +69,7 @@ closed-literals-spec =
     Inv-loop
     μ-loop
     count-literals-requires
+    no-literal-requires
     loop-holds
     mul-a
     element-copy-out-a

@@ -19,7 +19,7 @@ no-atoms-requires : tie.Need-no-atoms-requires
 no-atoms-requires c κs = search needs
 
 append-atoms-requires : tie.Need-append-atoms-requires
-append-atoms-requires c κs = (atoms-held [] (omega arith) (c .no-atoms .ensures), omega (arith, ap (λ (l : Atoms). l .n) (c .no-atoms .ensures)), search needs)
+append-atoms-requires c κs = (atoms-held [] (omega arith) (c .no-atoms .ensures), omega (arith, ap (λ (l : Atoms). l .n) (c .no-atoms .ensures)))
 
 returns : tie.Need-returns
 returns c =

@@ -20,7 +20,7 @@ no-literals-requires : tie.Need-no-literals-requires
 no-literals-requires c κs = search needs
 
 append-literals-requires : tie.Need-append-literals-requires
-append-literals-requires c κs = (literals-held [] (omega arith) (c .no-literals .ensures), omega (arith, ap (λ (l : Literals). l .n) (c .no-literals .ensures)), search needs)
+append-literals-requires c κs = (literals-held [] (omega arith) (c .no-literals .ensures), omega (arith, ap (λ (l : Literals). l .n) (c .no-literals .ensures)))
 
 returns : tie.Need-returns
 returns c =

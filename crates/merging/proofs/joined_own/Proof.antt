@@ -21,8 +21,8 @@ Inv-loop tau l g c n v out₀ j₀ out j = (j ≤ n) × (out ≡ joinedOwn (take
 abbrev μ-loop : tie.MeasureT-loop
 μ-loop tau l g c n v out₀ j₀ out j = n - j
 
-clause-literals-requires : tie.Need-clause-literals-requires Inv-loop μ-loop
-clause-literals-requires c κs = search needs
+literals-of-requires : tie.Need-literals-of-requires Inv-loop μ-loop
+literals-of-requires c κs = search needs
 
 loop-holds : tie.Need-loop-holds Inv-loop μ-loop
 loop-holds c = (omega arith, refl)
@@ -61,7 +61,7 @@ loop-again c =
     (omega arith, own-turn (take (a .t1 .variables) (a .tau)) (a .g) (a .l) (a .t1 .literals) (s .loop .j) (a .t) o (c .if1 .out) (own .result) (omega arith) (s .loop .inv .1) (own .ensures) now)
 
 returns : tie.Need-returns Inv-loop μ-loop
-returns c = let e : c .before .loop .j ≡ c .before .before .before .args .t1 .literalcount = omega arith in rw e at (c .before .loop .inv .1)
+returns c = let n = c .before .before .literals-of in let e : c .before .loop .j ≡ n .result = omega arith in rw (e, n .ensures .same) at (c .before .loop .inv .1)
 
 pub joined-own-spec : {M : Type 1} → statement M
 joined-own-spec =
@@ -69,7 +69,7 @@ joined-own-spec =
     (tie.spec
     Inv-loop
     μ-loop
-    clause-literals-requires
+    literals-of-requires
     loop-holds
     mul-m
     element-copy-out-m

@@ -1,13 +1,16 @@
 -- `merging::no_literals` meets its contract.
 -- What the search leaves follows from the tests passed and from what the calls ensure.
-use mathlib.Core.Path.{refl}
+use borrow.Author.Needs.{needs}
 use Rattle.lists.specs.Arrays.{exactly}
 use Rattle.merging.proofs.no_literals.Statement.{statement}
 use Rattle.merging.proofs.no_literals.Tie as tie
 
+no-literal-requires : tie.Need-no-literal-requires
+no-literal-requires c κs = search needs
+
 returns : tie.Need-returns
 unfolding exactly
-returns c = refl
+returns c = cc
 
 pub no-literals-spec : {M : Type 1} → statement M
-no-literals-spec = tie.close (tie.spec returns)
+no-literals-spec = tie.close (tie.spec no-literal-requires returns)

@@ -18,8 +18,8 @@ Inv-loop tau g i c n v end k₀ j₀ k j = (j ≤ end) × (k ≤ j) × (k ≡ ot
 abbrev μ-loop : tie.MeasureT-loop
 μ-loop tau g i c n v end k₀ j₀ k j = end - j
 
-clause-literals-requires : tie.Need-clause-literals-requires Inv-loop μ-loop
-clause-literals-requires c κs = search needs
+literals-of-requires : tie.Need-literals-of-requires Inv-loop μ-loop
+literals-of-requires c κs = search needs
 
 least-requires : tie.Need-least-requires Inv-loop μ-loop
 least-requires c κs = search needs
@@ -60,8 +60,9 @@ loop-again c =
 returns : tie.Need-returns Inv-loop μ-loop
 returns c =
     let a = c .before .before .before .before .args in
-    let e : c .before .loop .j ≡ min (a .i) (a .t1 .literalcount) = omega arith in
-    c .before .loop .inv .2 ∙ rw e (others-done (take (a .t1 .variables) (a .tau)) (a .g) (a .i) (a .t1 .literalcount) (a .t1 .literals))
+    let n = c .before .before .before .literals-of in
+    let e : c .before .loop .j ≡ min (a .i) (n .result) = omega arith in
+    c .before .loop .inv .2 ∙ rw (e, ← n .ensures .same) (others-done (take (a .t1 .variables) (a .tau)) (a .g) (a .i) (n .result) (a .t1 .literals))
 
 pub own-index-spec : {M : Type 1} → statement M
 own-index-spec =
@@ -69,7 +70,7 @@ own-index-spec =
     (tie.spec
     Inv-loop
     μ-loop
-    clause-literals-requires
+    literals-of-requires
     least-requires
     loop-holds
     mul-m

@@ -25,8 +25,8 @@ Inv-loop tau g i t c n v out₀ j₀ out j = (j ≤ n) × (out .n ≤ j) × (out
 abbrev μ-loop : tie.MeasureT-loop
 μ-loop tau g i t c n v out₀ j₀ out j = n - j
 
-clause-literals-requires : tie.Need-clause-literals-requires Inv-loop μ-loop
-clause-literals-requires c κs = search needs
+literals-of-requires : tie.Need-literals-of-requires Inv-loop μ-loop
+literals-of-requires c κs = search needs
 
 no-literals-requires : tie.Need-no-literals-requires Inv-loop μ-loop
 no-literals-requires c κs = search needs
@@ -82,7 +82,7 @@ loop-again c =
     (omega arith, omega (arith, ap (λ (l : Literals). l .n) e, length-map (reasonLiterals τ (a .g) (a .i) (take (j + 1) (a .t1 .literals))) f, stay-few τ (a .g) (a .i) (a .t1 .literals) (j + 1)), e)
 
 returns : tie.Need-returns Inv-loop μ-loop
-returns c = let e : c .before .loop .j ≡ c .before .before .before .before .args .t1 .literalcount = omega arith in rw e at (c .before .loop .inv .2)
+returns c = let n = c .before .before .before .literals-of in let e : c .before .loop .j ≡ n .result = omega arith in rw (e, n .ensures .same) at (c .before .loop .inv .2)
 
 pub reason-literals-spec : {M : Type 1} → statement M
 reason-literals-spec =
@@ -90,7 +90,7 @@ reason-literals-spec =
     (tie.spec
     Inv-loop
     μ-loop
-    clause-literals-requires
+    literals-of-requires
     no-literals-requires
     loop-holds
     mul-m

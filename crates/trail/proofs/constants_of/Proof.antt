@@ -1,7 +1,7 @@
 -- The count, or the room that there is.
 use native.Mathlib.Omega.{arith}
 use borrow.Author.Needs.{needs}
-use Rattle.trail.proofs.Counts.{counted-all, counted-most}
+use Rattle.clauses.proofs.Counts.{counted-all, counted-most}
 use Rattle.trail.proofs.constants_of.Statement.{statement}
 use Rattle.trail.proofs.constants_of.Tie as tie
 

@@ -1,7 +1,7 @@
 -- The record of a decision.
 use native.Mathlib.Omega.{arith}
 use borrow.Author.Needs.{needs}
-use Rattle.trail.proofs.Counts.{counted-length}
+use Rattle.clauses.proofs.Counts.{counted-length}
 use Rattle.trail.proofs.decided_entry.Statement.{statement}
 use Rattle.trail.proofs.decided_entry.Tie as tie
 

@@ -2,7 +2,7 @@
 use native.Mathlib.Omega.{arith}
 use lib.ListN.{length-map}
 use borrow.Author.Needs.{needs}
-use Rattle.trail.proofs.Counts.{counted-all, counted-most}
+use Rattle.clauses.proofs.Counts.{counted-all, counted-most}
 use Rattle.trail.proofs.instances_of.Statement.{statement}
 use Rattle.trail.proofs.instances_of.Tie as tie
 

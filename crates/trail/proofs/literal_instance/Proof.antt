@@ -2,7 +2,7 @@
 use native.Mathlib.Omega.{arith}
 use borrow.Author.Needs.{needs}
 use Rattle.calculus.specs.Clauses.{noLiteral}
-use Rattle.trail.proofs.Counts.{counted-at, counted-past}
+use Rattle.clauses.proofs.Counts.{counted-at, counted-past}
 use Rattle.trail.proofs.literal_instance.Statement.{statement}
 use Rattle.trail.proofs.literal_instance.Tie as tie
 

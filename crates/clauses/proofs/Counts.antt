@@ -3,9 +3,9 @@ use mathlib.Core.Path.{_∙_, _≡_, ap, refl, sym}
 use mathlib.Core.List.{List}
 use Prim.Native.Nat.{_<_, _≤_, ℕ}
 use native.Mathlib.Omega.{arith}
-use lib.ListN.{List·getD-eq-default, getD, length, take}
+use lib.ListN.{List·getD-eq-default, getD, length, length-take, take}
 use lib.Seq.{getD-take, length-take-le, take-all}
-use Rattle.trail.specs.Answers.{Counts, CountsOnce}
+use Rattle.clauses.specs.Counts.{Counts, CountsOnce}
 
 module _ {A : Type 0} (l : List A) (most n : ℕ) (long : length l ≡ most) where
   pub counted-all : n ≤ most → Counts l most n n
@@ -17,6 +17,9 @@ module _ {A : Type 0} (l : List A) (most n : ℕ) (long : length l ≡ most) whe
 module _ {A : Type 0} {l : List A} {most n r : ℕ} (C : Counts l most n r) where
   pub counted-length : length (take n l) ≡ r
   counted-length = ap length (sym (C .same)) ∙ length-take-le r l (omega (arith, C .few, C .long))
+
+  pub counted-within : r ≤ n
+  counted-within = omega (arith, counted-length, length-take n l)
 
   pub counted-at : (j : ℕ) (d : A) → j < r → getD (take n l) j d ≡ getD l j d
   counted-at j d h = ap (λ k. getD k j d) (sym (C .same)) ∙ getD-take r l j d h

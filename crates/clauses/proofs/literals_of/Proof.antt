@@ -2,9 +2,9 @@
 use native.Mathlib.Omega.{arith}
 use lib.ListN.{length-map}
 use borrow.Author.Needs.{needs}
-use Rattle.trail.proofs.Counts.{counted-all, counted-most}
-use Rattle.trail.proofs.literals_of.Statement.{statement}
-use Rattle.trail.proofs.literals_of.Tie as tie
+use Rattle.clauses.proofs.Counts.{counted-all, counted-most}
+use Rattle.clauses.proofs.literals_of.Statement.{statement}
+use Rattle.clauses.proofs.literals_of.Tie as tie
 
 cast-n : tie.Need-cast-n
 cast-n c = search needs
