@@ -91,6 +91,12 @@ module _ {A : Type 0} where
   refused (C.At i) (C.Refused m p) x y s f checks n e q z = rw (sym e)
   refused (C.Refused m k) c₁ x y s f checks n e q z = refl
 
+  -- A refusal before it is judged stays.
+  pub stays : (c₀ : Cursor) (n p : ℕ) (x y : A) (s : List ℕ) (f : Reader A) (checks : A → List Check) → viewed (C.Refused n p) x ≡ after c₀ (f s)
+      → viewed (C.Refused n p) y ≡ after c₀ ((f judged checks) s)
+  stays (C.At i) n p x y s f checks e = rw (sym e)
+  stays (C.Refused m q) n p x y s f checks e = e
+
   pub nothing : (c : Cursor) (x : A) (s : List ℕ) → viewed c x ≡ after c (give x s)
   nothing (C.At i) x s = refl
   nothing (C.Refused n p) x s = refl
