@@ -5,7 +5,7 @@ use Prim.Native.Nat.{ℕ}
 use lib.ListN.{take}
 use Rattle.lists.specs.Arrays.{exactly}
 use Rattle.calculus.specs.Checks.{_or_, between}
-use Rattle.runfile.specs.Readers.{Got, Reader, _judged_, bad, got}
+use Rattle.runfile.specs.Readers.{Got, Reader, _judged_, bad, got, times}
 use Rattle.runfile.specs.File.{byte}
 use Rattle.fields.specs.declared.Cursor.{Cursor}
 use Rattle.fields.specs.declared.Cursor.the-variants as C
@@ -47,3 +47,8 @@ ranged least most n = byte judged λ x. between least most x or n ∷ []
 -- An array of m slots whose first j are filled; the others are blank.
 abbrev pub Filled : {A : Type 0} → ℕ → A → List A → ℕ → Type 0
 Filled m d l j = l ≡ exactly m d (take j l)
+
+-- n readings of the file s by f, from one cursor to another, fill such an array.
+pub record Fills {A : Type 0} (m : ℕ) (d : A) (s : List ℕ) (f : Reader A) (n : ℕ) (c₀ c₁ : Cursor) (l : List A) : Type 0 where
+  pub reads : viewed c₁ (take n l) ≡ after c₀ (times n f s)
+  pub filled : Filled m d l n

@@ -7,7 +7,7 @@ ghost use Rattle.basis.specs.Limits.{mostVariables};
 ghost use Rattle.calculus.specs.States as calculus;
 ghost use Rattle.runfile.specs.Readers.{_then_, give, times};
 ghost use Rattle.runfile.specs.File.{byte, instance, ruled, step, end};
-ghost use Rattle.fields.specs.Views.{after, reached, viewed, Filled};
+ghost use Rattle.fields.specs.Views.{Filled, Fills, after, reached, viewed};
 ghost use Rattle.steps.specs.Records.{stepRecord, packedStep, stepAnswer, fileAnswer};
 use basis::MOST_VARIABLES;
 use basis::SURPLUS;
@@ -38,7 +38,7 @@ pub struct StepRead {
 // n constants
 fn constants_at(s: &[u8], at: Cursor, n: u8) -> InstanceRead
     requires { ⌜ n ≤ mostVariables ⌝ }
-    ensures { λ r. ⌜ (r .count ≡ n) × (viewed (r .at) (take n (r .instance)) ≡ after at (times n byte (now (s .entry)))) × Filled mostVariables 0 (r .instance) n ⌝ }
+    ensures { λ r. ⌜ (r .count ≡ n) × Fills mostVariables 0 (now (s .entry)) byte n at (r .at) (r .instance) ⌝ }
 {
     let count = n as usize;
     let mut instance = [0u8; MOST_VARIABLES];
