@@ -44,34 +44,34 @@ pub struct Predicates {
     pub arities: [u8; MOST_PREDICATES],
 }
 
-pub struct PredicatesRead {
-    pub predicates: Predicates,
-    pub at: Cursor,
+struct PredicatesRead {
+    predicates: Predicates,
+    at: Cursor,
 }
 
-pub struct AtomRead {
-    pub atom: Atom,
-    pub at: Cursor,
+struct AtomRead {
+    atom: Atom,
+    at: Cursor,
 }
 
-pub struct AtomsRead {
-    pub atoms: [Atom; MOST_ATOMS],
-    pub at: Cursor,
+struct AtomsRead {
+    atoms: [Atom; MOST_ATOMS],
+    at: Cursor,
 }
 
-pub struct LiteralRead {
-    pub literal: Literal,
-    pub at: Cursor,
+struct LiteralRead {
+    literal: Literal,
+    at: Cursor,
 }
 
-pub struct LiteralsRead {
-    pub literals: [Literal; MOST_LITERALS],
-    pub at: Cursor,
+struct LiteralsRead {
+    literals: [Literal; MOST_LITERALS],
+    at: Cursor,
 }
 
-pub struct ClauseRead {
-    pub clause: Clause,
-    pub at: Cursor,
+struct ClauseRead {
+    clause: Clause,
+    at: Cursor,
 }
 
 // What stands before the input clauses, their number included, and the cursor there
@@ -253,16 +253,13 @@ fn clause_at(s: &[u8], at: Cursor, ps: Predicates) -> ClauseRead
 {
     let read = clause_fields_at(s, at, ps);
     let clause = read.clause;
-    let end = read.at;
     let slots = ps.arities;
     let judged = admit_clause(ps.count, slots, clause);
     let number = judged.number;
     if number == 0 {
-        return ClauseRead {
-            clause: clause,
-            at: end,
-        };
+        return read;
     }
+    let end = read.at;
     ClauseRead {
         clause: clause,
         at: refuse(at, end, number),
