@@ -1,7 +1,7 @@
 -- Each judged field, where it passes and where it is refused.
-use mathlib.Core.Path.{_∙_, _≡_, ap, refl}
+use mathlib.Core.Path.{_∙_, _≡_, ap, fun-ext, refl, sym}
 use mathlib.Core.List.{List, [], _∷_}
-use mathlib.Core.Bool.{Bool, _&&_, false, true}
+use mathlib.Core.Bool.{Bool, _&&_, and-comm, and-eq-true-iff, and-true, false, true}
 use Prim.Native.Nat.{_+_, _-_, _<_, _≤_, suc, zero, ℕ}
 use native.Mathlib.Omega.{arith}
 use lib.Dec.{eqb, leb, ltb}
@@ -11,57 +11,48 @@ use mir.Facts.{toZ-ofZ, toZ-pos}
 use mir.Syntax.{w32}
 use mir.Val.{SFits, ofZ, toZ}
 use borrow.Author.Needs.{sfits-of}
-use borrow.Author.Tests.{eq-eqb, le-leb, le-ltb, lt-leb, lt-ltb, ne-eqb}
+use borrow.Author.Tests.{eq-eqb, le-leb, le-ltb, leb-true, lt-leb, lt-ltb, ne-eqb}
 use Rattle.basis.specs.Limits.{mostC}
-use Rattle.basis.specs.Refusals.{aboveLimit, accepted, outOfRange, unknownRule, wrongMark}
-use Rattle.fields.specs.Views.{after, refusedFrom, viewed}
+use Rattle.basis.specs.Refusals.{aboveLimit, accepted, outOfRange, wrongMark}
+use Rattle.fields.specs.Views.{Told, after, ranged, refusedFrom, viewed}
 use Rattle.fields.specs.declared.Cursor.{Cursor}
 use Rattle.calculus.specs.Checks.{_or_, between}
-use Rattle.fields.proofs.Laws.{and-give, held, refused}
-use Rattle.runfile.specs.File.{count, signed, byte, constant, mostSteps, number, rule, second, stepCount, version, within}
+use Rattle.fields.proofs.Laws.{and-give, held, refused, told-blank, told-of, told-refused, told-view}
+use Rattle.runfile.specs.File.{byte, constant, count, mostSteps, number, second, signed, stepCount, version, within}
 use Rattle.runfile.specs.Readers.{Reader, _judged_, _then_, give}
 
 module _ {A : Type 0} (f : Reader A) (ok : A → Bool) (n : ℕ) (s : List ℕ) (c₀ c₁ : Cursor) (x : A) (e : viewed c₁ x ≡ after c₀ (f s)) where
-  one-held : ok x ≡ true → viewed c₁ x ≡ after c₀ ((f judged λ z. ok z or n ∷ []) s)
+  pub one-held : ok x ≡ true → viewed c₁ x ≡ after c₀ ((f judged λ z. ok z or n ∷ []) s)
   one-held h = held c₀ c₁ x s f (λ z. ok z or n ∷ []) e (rw h)
 
-  one-refused : (y : A) → ok x ≡ false → eqb n accepted ≡ false → viewed (refusedFrom c₀ c₁ n) y ≡ after c₀ ((f judged λ z. ok z or n ∷ []) s)
+  pub one-refused : (y : A) → ok x ≡ false → eqb n accepted ≡ false → viewed (refusedFrom c₀ c₁ n) y ≡ after c₀ ((f judged λ z. ok z or n ∷ []) s)
   one-refused y h z = refused c₀ c₁ x y s f (λ z. ok z or n ∷ []) n e (rw h) z
 
-module _ (s : List ℕ) (c₀ c₁ : Cursor) (v : ℕ) (e : viewed c₁ v ≡ after c₀ (byte s)) where
-  pub count-held : (most : ℕ) → v ≤ most → viewed c₁ v ≡ after c₀ (count most s)
-  count-held most h = one-held byte (λ n. leb n most) aboveLimit s c₀ c₁ v e (le-leb v most h)
+module _ (s : List ℕ) (c₀ c₁ : Cursor) (v least most : ℕ) (t : Told 0 c₁ v (after c₀ (byte s))) where
+  pub ranged-held : (n : ℕ) → between least most v ≡ true → Told 0 c₁ v (after c₀ (ranged least most n s))
+  ranged-held n h = told-of (one-held byte (between least most) n s c₀ c₁ v (told-view t) h) (told-blank t)
 
-  pub count-refused : (most : ℕ) → most < v → viewed (refusedFrom c₀ c₁ aboveLimit) 0 ≡ after c₀ (count most s)
-  count-refused most h = one-refused byte (λ n. leb n most) aboveLimit s c₀ c₁ v e 0 (lt-leb v most h) refl
+  pub ranged-refused : (n : ℕ) → between least most v ≡ false → 1 ≤ n → Told 0 (refusedFrom c₀ c₁ n) 0 (after c₀ (ranged least most n s))
+  ranged-refused n h k = told-refused (one-refused byte (between least most) n s c₀ c₁ v (told-view t) 0 h (ne-eqb n 0 (λ e. omega arith)))
 
-  pub within-held : (least most : ℕ) → least ≤ v → v ≤ most → viewed c₁ v ≡ after c₀ (within least most s)
-  within-held least most h k = one-held byte (between least most) outOfRange s c₀ c₁ v e (rw (le-leb least v h, le-leb v most k))
+pub between-most : (least most v : ℕ) → between least most v ≡ true → v ≤ most
+between-most least most v h = leb-true v most (and-eq-true-iff (leb least v) (leb v most) .0 h .1)
 
-  pub within-below : (least most : ℕ) → v < least → viewed (refusedFrom c₀ c₁ outOfRange) 0 ≡ after c₀ (within least most s)
-  within-below least most h = one-refused byte (between least most) outOfRange s c₀ c₁ v e 0 (rw (lt-leb least v h)) refl
+-- Ranges are compared by their tests alone.
+module _ (s : List ℕ) (c : Cursor) where
+  alike : (ok ok′ : ℕ → Bool) (n : ℕ) → ((x : ℕ) → ok x ≡ ok′ x) → after c ((byte judged λ x. ok x or n ∷ []) s) ≡ after c ((byte judged λ x. ok′ x or n ∷ []) s)
+  alike ok ok′ n h = ap (λ (t : ℕ → Bool). after c ((byte judged λ x. t x or n ∷ []) s)) (fun-ext h)
 
-  pub within-above : (least most : ℕ) → least ≤ v → most < v → viewed (refusedFrom c₀ c₁ outOfRange) 0 ≡ after c₀ (within least most s)
-  within-above least most h k = one-refused byte (between least most) outOfRange s c₀ c₁ v e 0 (rw (le-leb least v h, lt-leb v most k)) refl
+  pub count-range : (most : ℕ) → after c (ranged 0 most aboveLimit s) ≡ after c (count most s)
+  count-range most = alike (between 0 most) (λ x. leb x most) aboveLimit (λ x. rw (le-leb 0 x (omega arith)))
 
-  pub rule-held : 1 ≤ v → v ≤ 8 → viewed c₁ v ≡ after c₀ (rule s)
-  rule-held h k = one-held byte (between 1 8) unknownRule s c₀ c₁ v e (rw (le-leb 1 v h, le-leb v 8 k))
+  -- Of the second place, 0 is in range unless the first place is 0.
+  module _ (v p : ℕ) where
+    pub second-one : p ≡ 0 → after c (within 1 v s) ≡ after c (second v p s)
+    second-one e = alike (between 1 v) (λ q. leb q v && leb 1 (p + q)) outOfRange (λ q. let z : p + q ≡ q = omega arith in rw z (and-comm (leb 1 q) (leb q v)))
 
-  pub rule-below : v < 1 → viewed (refusedFrom c₀ c₁ unknownRule) 0 ≡ after c₀ (rule s)
-  rule-below h = one-refused byte (between 1 8) unknownRule s c₀ c₁ v e 0 (rw (lt-leb 1 v h)) refl
-
-  pub rule-above : 1 ≤ v → 8 < v → viewed (refusedFrom c₀ c₁ unknownRule) 0 ≡ after c₀ (rule s)
-  rule-above h k = one-refused byte (between 1 8) unknownRule s c₀ c₁ v e 0 (rw (le-leb 1 v h, lt-leb v 8 k)) refl
-
-  pub second-held : (most p : ℕ) → v ≤ most → 1 ≤ p + v → viewed c₁ v ≡ after c₀ (second most p s)
-  second-held most p h k = one-held byte (λ q. leb q most && leb 1 (p + q)) outOfRange s c₀ c₁ v e (rw (le-leb v most h, le-leb 1 (p + v) k))
-
-  pub second-above : (most p : ℕ) → most < v → viewed (refusedFrom c₀ c₁ outOfRange) 0 ≡ after c₀ (second most p s)
-  second-above most p h = one-refused byte (λ q. leb q most && leb 1 (p + q)) outOfRange s c₀ c₁ v e 0 (rw (lt-leb v most h)) refl
-
-  pub second-zero : (most p : ℕ) → v ≤ most → p ≡ 0 → v ≡ 0 → viewed (refusedFrom c₀ c₁ outOfRange) 0 ≡ after c₀ (second most p s)
-  second-zero most p h a b =
-      one-refused byte (λ q. leb q most && leb 1 (p + q)) outOfRange s c₀ c₁ v e 0 (rw (le-leb v most h, lt-leb 1 (p + v) (omega (arith, a, b)))) refl
+    pub second-any : ¬ (p ≡ 0) → after c (within 0 v s) ≡ after c (second v p s)
+    second-any h = alike (between 0 v) (λ q. leb q v && leb 1 (p + q)) outOfRange (λ q. rw (le-leb 0 q (omega arith), le-leb 1 (p + q) (omega (arith, h))) (sym (and-true (leb q v))))
 
 module _ (s : List ℕ) (c₀ c₁ : Cursor) (v : ℕ) (e : viewed c₁ v ≡ after c₀ (number 2 s)) where
   pub version-held : v ≡ 1 → viewed c₁ 1 ≡ after c₀ (version s)

@@ -11,7 +11,7 @@ use lib.Seq.{length-take-le, take-suc-set}
 use Rattle.basis.specs.Refusals.{accepted}
 use Rattle.lists.proofs.Arrays.{exactly-length, exactly-none, set-exactly}
 use Rattle.lists.specs.Arrays.{exactly}
-use Rattle.fields.specs.Views.{Filled, Told, after, given, reached, refusedFrom, viewed}
+use Rattle.fields.specs.Views.{Filled, Fills, Told, after, given, reached, refusedFrom, viewed}
 use Rattle.fields.specs.declared.Cursor.{Cursor}
 use Rattle.calculus.specs.Checks.{Check, firstRefusal}
 use Rattle.runfile.specs.Readers.{Got, Reader, _judged_, _then_, bad, give, got, onward, times}
@@ -91,6 +91,12 @@ module _ {A : Type 0} where
   refused (C.At i) (C.Refused m p) x y s f checks n e q z = rw (sym e)
   refused (C.Refused m k) c₁ x y s f checks n e q z = refl
 
+  -- A refusal before it is judged stays.
+  pub stays : (c₀ : Cursor) (n p : ℕ) (x y : A) (s : List ℕ) (f : Reader A) (checks : A → List Check) → viewed (C.Refused n p) x ≡ after c₀ (f s)
+      → viewed (C.Refused n p) y ≡ after c₀ ((f judged checks) s)
+  stays (C.At i) n p x y s f checks e = rw (sym e)
+  stays (C.Refused m q) n p x y s f checks e = e
+
   pub nothing : (c : Cursor) (x : A) (s : List ℕ) → viewed c x ≡ after c (give x s)
   nothing (C.At i) x s = refl
   nothing (C.Refused n p) x s = refl
@@ -132,10 +138,6 @@ module _ {A : Type 0} (s : List ℕ) (f : Reader A) where
   unfolding times
   times-more c₀ c₁ c₂ j xs x e h = rw (add-one j) (and-then c₀ c₁ c₂ xs (xs ++ (x ∷ [])) s (times j f) (λ ys. f then λ y. give (ys ++ (y ∷ []))) e (and-give c₁ c₂ x s f (λ y. xs ++ (y ∷ [])) h))
 
-  pub fill-more : (c₀ c₁ c₂ : Cursor) (j : ℕ) (l : List A) (x : A) → j < length l → viewed c₁ (take j l) ≡ after c₀ (times j f s) → viewed c₂ x ≡ after c₁ (f s)
-      → viewed c₂ (take (j + 1) (set l j x)) ≡ after c₀ (times (j + 1) f s)
-  fill-more c₀ c₁ c₂ j l x k e h = rw (add-one j, take-suc-set l j x k) (rw (add-one j) at (times-more c₀ c₁ c₂ j (take j l) x e h))
-
 -- The array filled to j, and one slot more
 module _ {A : Type 0} (m : ℕ) (d : A) where
   pub filled-none : Filled m d (replicate m d) 0
@@ -150,6 +152,18 @@ module _ {A : Type 0} (m : ℕ) (d : A) where
       let k : length (take j l) ≡ j = length-take-le j l (omega arith) in
       let z : set (exactly m d (take j l)) j x ≡ exactly m d (take j l ++ (x ∷ [])) = rw k at (set-exactly d m (take j l) x (omega arith)) in
       rw (add-one j, take-suc-set l j x (omega arith)) (ap (λ (t : List A). set t j x) e ∙ z)
+
+module _ {A : Type 0} {m : ℕ} {d : A} {s : List ℕ} {f : Reader A} where
+  pub fills-none : (c : Cursor) → Fills m d s f 0 c c (replicate m d)
+  fills-none c = record { reads = times-none s f c; filled = filled-none m d }
+
+  pub fills-more : {c₀ c₁ : Cursor} {j : ℕ} {l : List A} (c₂ : Cursor) (x : A) → Fills m d s f j c₀ c₁ l → j < m → viewed c₂ x ≡ after c₁ (f s) → Fills m d s f (j + 1) c₀ c₂ (set l j x)
+  fills-more {c₀} {c₁} {j} {l} c₂ x e h q =
+      let n = filled-long m d l j (e .filled) in
+      record {
+        reads = rw (add-one j, take-suc-set l j x (omega arith)) (rw (add-one j) at (times-more s f c₀ c₁ c₂ j (take j l) x (e .reads) q));
+        filled = filled-more m d l j x h (e .filled);
+      }
 
 -- ---- where readings end
 

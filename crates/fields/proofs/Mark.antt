@@ -2,18 +2,25 @@
 use mathlib.Core.Path.{_∙_, _≡_, ap, refl, sym}
 use mathlib.Core.List.{List, [], _∷_}
 use mathlib.Core.Bool.{Bool, _&&_, false, true}
-use Prim.Native.Nat.{_+_, _<_, _≤_, suc, zero, ℕ}
+use Prim.Native.Nat.{_+_, _-_, _<_, _≤_, suc, zero, ℕ}
 use native.Mathlib.Numerals.{add-one}
 use native.Mathlib.Omega.{arith}
 use lib.Dec.{eqb}
 use lib.ListN.{drop, getD, length, length-drop, take}
 use lib.Seq.{getD-drop, getD-take, take-length, take-suc}
-use borrow.Author.Tests.{le-leb, lt-leb, ne-eqb}
-use Rattle.basis.specs.Refusals.{endsInside, wrongMark}
+use borrow.Author.Tests.{ne-eqb}
+use Rattle.basis.specs.Refusals.{wrongMark}
 use Rattle.lists.proofs.Tests.{T→eq, sameList-refl, sameList→eq}
 use Rattle.lists.specs.Lists.{sameList}
+use Rattle.fields.specs.Views.{after, reached, refusedFrom, viewed}
+use Rattle.fields.specs.declared.Cursor.{Cursor}
+use Rattle.fields.proofs.Bytes.{field-none, field-there}
+use Rattle.calculus.specs.Checks.{_or_}
+use Rattle.fields.proofs.Laws.{stays}
+use Rattle.fields.proofs.Judged.{one-held, one-refused}
 use Rattle.runfile.specs.File.{letters, mark}
-use Rattle.runfile.specs.Readers.{bad, field, got}
+use Rattle.runfile.specs.Readers.{field}
+use Rattle.fields.specs.declared.Cursor.the-variants as C
 
 differs : (a b : List ℕ) (j : ℕ) → j < length b → ¬ (getD a j 0 ≡ getD b j 0) → sameList a b ≡ false
 differs a [] j h q = absurd (omega arith)
@@ -39,17 +46,14 @@ module _ (s : List ℕ) (i : ℕ) (b : List ℕ) (j : ℕ) where
       let f : take (length b) (drop i s) ≡ b = (rw z at e) ∙ take-length b in
       ap (λ (l : List ℕ). sameList l b) f ∙ T→eq (sameList b b) (sameList-refl b)
 
-module _ (s : List ℕ) (i : ℕ) where
-  pub mark-held : i + 3 ≤ length s → sameList (take 3 (drop i s)) letters ≡ true → mark s i ≡ got letters (i + 3)
-  unfolding field
-  mark-held h e =
-      let z : take 3 (drop i s) ≡ letters = sameList→eq (take 3 (drop i s)) letters (rw e tt) in
-      rw (le-leb (i + 3) (length s) h, z)
+module _ (s : List ℕ) (c₀ : Cursor) where
+  module _ (j : ℕ) (e : C.At j ≡ reached (after c₀ (field 3 s))) where
+    pub mark-held : sameList (take 3 (drop (j - 3) s)) letters ≡ true → viewed (C.At j) letters ≡ after c₀ (mark s)
+    mark-held h =
+        rw (sameList→eq (take 3 (drop (j - 3) s)) letters (rw h tt)) at (one-held (field 3) (λ b. sameList b letters) wrongMark s c₀ (C.At j) (take 3 (drop (j - 3) s)) (field-there 3 s c₀ j e .2) h)
 
-  pub mark-refused : i + 3 ≤ length s → sameList (take 3 (drop i s)) letters ≡ false → mark s i ≡ bad wrongMark i
-  unfolding field
-  mark-refused h e = rw (le-leb (i + 3) (length s) h, e)
+    pub mark-refused : sameList (take 3 (drop (j - 3) s)) letters ≡ false → viewed (refusedFrom c₀ (C.At j) wrongMark) letters ≡ after c₀ (mark s)
+    mark-refused h = one-refused (field 3) (λ b. sameList b letters) wrongMark s c₀ (C.At j) (take 3 (drop (j - 3) s)) (field-there 3 s c₀ j e .2) letters h refl
 
-  pub mark-short : length s < i + 3 → mark s i ≡ bad endsInside i
-  unfolding field
-  mark-short h = rw (lt-leb (i + 3) (length s) h)
+  pub mark-short : (c₁ : Cursor) (n p : ℕ) → c₁ ≡ C.Refused n p → c₁ ≡ reached (after c₀ (field 3 s)) → viewed c₁ letters ≡ after c₀ (mark s)
+  mark-short c₁ n p z e = rw z (stays c₀ n p [] letters s (field 3) (λ b. sameList b letters or wrongMark ∷ []) (field-none 3 s c₀ c₁ n p z e))

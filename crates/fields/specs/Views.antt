@@ -1,18 +1,14 @@
 -- Cursors and what stands beside them, as readings of the run file; the records that the public functions answer with.
 use mathlib.Core.Path.{_≡_}
-use mathlib.Core.List.{List}
-use mathlib.Core.Bool.{Bool, true, false}
-use Prim.Native.Nat.{ℕ, _+_, _≤_, _<_}
+use mathlib.Core.List.{List, [], _∷_}
+use Prim.Native.Nat.{ℕ}
 use lib.ListN.{take}
 use Rattle.lists.specs.Arrays.{exactly}
-use Rattle.runfile.specs.Readers.{Got, got, bad}
+use Rattle.calculus.specs.Checks.{_or_, between}
+use Rattle.runfile.specs.Readers.{Got, Reader, _judged_, bad, got, times}
+use Rattle.runfile.specs.File.{byte}
 use Rattle.fields.specs.declared.Cursor.{Cursor}
 use Rattle.fields.specs.declared.Cursor.the-variants as C
-
--- b says whether n bytes stand at i, of m.
-pub record Fits (b : Bool) (i n m : ℕ) : Type 0 where
-  pub yes : b ≡ true → i + n ≤ m
-  pub no : b ≡ false → m < i + n
 
 -- Reading on from a cursor; a refusal stays.
 abbrev pub after : {A : Type 0} → Cursor → (ℕ → Got A) → Got A
@@ -44,6 +40,15 @@ refusedFrom (C.At i) (C.At j) n = C.Refused n i
 refusedFrom (C.At i) (C.Refused m p) n = C.Refused m p
 refusedFrom (C.Refused m p) e n = C.Refused m p
 
+-- A number of one byte from least to most, else refused by n
+abbrev pub ranged : (least most n : ℕ) → Reader ℕ
+ranged least most n = byte judged λ x. between least most x or n ∷ []
+
 -- An array of m slots whose first j are filled; the others are blank.
 abbrev pub Filled : {A : Type 0} → ℕ → A → List A → ℕ → Type 0
 Filled m d l j = l ≡ exactly m d (take j l)
+
+-- n readings of the file s by f, from one cursor to another, fill such an array.
+pub record Fills {A : Type 0} (m : ℕ) (d : A) (s : List ℕ) (f : Reader A) (n : ℕ) (c₀ c₁ : Cursor) (l : List A) : Type 0 where
+  pub reads : viewed c₁ (take n l) ≡ after c₀ (times n f s)
+  pub filled : Filled m d l n

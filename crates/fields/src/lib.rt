@@ -2,11 +2,14 @@
 // after which nothing more is read.
 ghost use mathlib.Core.Path.{_≡_};
 ghost use Prim.Native.Nat.{_+_, _≤_, _<_};
+ghost use lib.Dec.{leb};
 ghost use lib.IntN.{pos};
 ghost use lib.ListN.{length, take, drop};
 ghost use Rattle.lists.specs.Lists.{sameList};
-ghost use Rattle.runfile.specs.File.{number, byte, count, within, second, constant, rule, letters, mark, version, mostSteps, stepCount};
-ghost use Rattle.fields.specs.Views.{Fits, Told, after, viewed, refusedFrom};
+ghost use Rattle.calculus.specs.Checks.{between};
+ghost use Rattle.runfile.specs.Readers.{field};
+ghost use Rattle.runfile.specs.File.{littleEndian, number, byte, count, within, second, constant, rule, letters, mark, version, mostSteps, stepCount};
+ghost use Rattle.fields.specs.Views.{Told, after, ranged, reached, viewed, refusedFrom};
 use basis::ABOVE_LIMIT;
 use basis::ENDS_INSIDE;
 use basis::OUT_OF_RANGE;
@@ -40,141 +43,119 @@ pub struct Constant {
     pub at: Cursor,
 }
 
-fn widened(x: u8) -> u32
-    ensures { λ r. ⌜ (r ≡ x) × (r < 256) ⌝ }
-{
-    x as u32
-}
-
 // Whether n bytes stand at i.
 fn fits(s: &[u8], i: usize, n: usize) -> bool
-    ensures { λ r. ⌜ Fits r i n (length (now (s .entry))) ⌝ }
+    ensures { λ r. ⌜ r ≡ leb (i + n) (length (now (s .entry))) ⌝ }
 {
     if s.len() < n {
         return false;
     }
-    i <= s.len() - n
+    if s.len() - n < i {
+        return false;
+    }
+    true
+}
+
+// The cursor after a field of n bytes
+fn past(s: &[u8], at: Cursor, n: usize) -> Cursor
+    ensures { λ r. ⌜ r ≡ reached (after at (field n (now (s .entry)))) ⌝ }
+{
+    match at {
+        Cursor::At { place } => {
+            if fits(s, place, n) {
+                return Cursor::At { place: place + n };
+            }
+            Cursor::Refused {
+                number: ENDS_INSIDE,
+                place: place,
+            }
+        }
+        Cursor::Refused { number, place } => at,
+    }
 }
 
 // One byte
 pub fn byte_at(s: &[u8], at: Cursor) -> Byte
     ensures { λ r. ⌜ Told 0 (r .at) (r .value) (after at (byte (now (s .entry)))) ⌝ }
 {
-    match at {
-        Cursor::At { place } => {
-            if fits(s, place, 1) {
-                return Byte {
-                    value: s[place],
-                    at: Cursor::At { place: place + 1 },
-                };
-            }
-            Byte {
-                value: 0,
-                at: Cursor::Refused {
-                    number: ENDS_INSIDE,
-                    place: place,
-                },
-            }
-        }
-        Cursor::Refused { number, place } => Byte {
-            value: 0,
-            at: Cursor::Refused {
-                number: number,
-                place: place,
-            },
-        },
+    let end = past(s, at, 1);
+    if let Cursor::At { place: next } = end {
+        return Byte {
+            value: s[next - 1],
+            at: end,
+        };
     }
+    Byte { value: 0, at: end }
 }
 
-// Two bytes, the lower first
-fn pair_at(s: &[u8], at: Cursor) -> Wide
-    ensures { λ r. ⌜ Told 0 (r .at) (r .value) (after at (number 2 (now (s .entry)))) ⌝ }
+// The number that n bytes at i make, the lowest first
+fn word(s: &[u8], i: usize, n: usize) -> u32
+    requires { ⌜ (i + n ≤ length (now s)) × (n ≤ 4) ⌝ }
+    ensures { λ r. ⌜ r ≡ littleEndian (take n (drop i (now (s .entry)))) ⌝ }
 {
-    match at {
-        Cursor::At { place } => {
-            if fits(s, place, 2) {
-                return Wide {
-                    value: widened(s[place]) + 256 * widened(s[place + 1]),
-                    at: Cursor::At { place: place + 2 },
-                };
-            }
-            Wide {
-                value: 0,
-                at: Cursor::Refused {
-                    number: ENDS_INSIDE,
-                    place: place,
-                },
-            }
-        }
-        Cursor::Refused { number, place } => Wide {
-            value: 0,
-            at: Cursor::Refused {
-                number: number,
-                place: place,
-            },
-        },
+    let mut value: u32 = 0;
+    let mut j = n;
+    while 0 < j {
+        j -= 1;
+        value = s[i + j] as u32 + 256 * value;
     }
+    value
 }
 
-// Four bytes, the lower first
-fn quad_at(s: &[u8], at: Cursor) -> Wide
-    ensures { λ r. ⌜ Told 0 (r .at) (r .value) (after at (number 4 (now (s .entry)))) ⌝ }
+// The number of a field of n bytes
+fn number_at(s: &[u8], at: Cursor, n: usize) -> Wide
+    requires { ⌜ n ≤ 4 ⌝ }
+    ensures { λ r. ⌜ Told 0 (r .at) (r .value) (after at (number n (now (s .entry)))) ⌝ }
 {
-    match at {
-        Cursor::At { place } => {
-            if fits(s, place, 4) {
-                let a = widened(s[place]);
-                let b = widened(s[place + 1]);
-                let c = widened(s[place + 2]);
-                let d = widened(s[place + 3]);
-                return Wide {
-                    value: a + 256 * (b + 256 * (c + 256 * d)),
-                    at: Cursor::At { place: place + 4 },
-                };
-            }
-            Wide {
-                value: 0,
-                at: Cursor::Refused {
-                    number: ENDS_INSIDE,
-                    place: place,
-                },
-            }
-        }
-        Cursor::Refused { number, place } => Wide {
-            value: 0,
-            at: Cursor::Refused {
-                number: number,
-                place: place,
-            },
-        },
+    let end = past(s, at, n);
+    if let Cursor::At { place: next } = end {
+        return Wide {
+            value: word(s, next - n, n),
+            at: end,
+        };
     }
+    Wide { value: 0, at: end }
 }
 
 // What began at `start` and ended at `end`, refused where it began; an earlier refusal stays.
 pub fn refuse(start: Cursor, end: Cursor, number: u8) -> Cursor
     ensures { λ r. ⌜ r ≡ refusedFrom start end number ⌝ }
 {
-    match start {
-        Cursor::At { place: first } => match end {
-            Cursor::At { place: next } => Cursor::Refused {
+    if let Cursor::At { place: first } = start {
+        if let Cursor::At { place: next } = end {
+            return Cursor::Refused {
                 number: number,
                 place: first,
-            },
-            Cursor::Refused {
-                number: earlier,
-                place,
-            } => Cursor::Refused {
-                number: earlier,
-                place: place,
-            },
-        },
-        Cursor::Refused {
-            number: earlier,
-            place,
-        } => Cursor::Refused {
-            number: earlier,
-            place: place,
-        },
+            };
+        }
+        return end;
+    }
+    start
+}
+
+fn in_range(x: usize, least: usize, most: usize) -> bool
+    ensures { λ r. ⌜ r ≡ between least most x ⌝ }
+{
+    if x < least {
+        return false;
+    }
+    x <= most
+}
+
+// A number from least to most; any other is refused where it stands.
+fn ranged_at(s: &[u8], at: Cursor, least: usize, most: usize, number: u8) -> Byte
+    requires { ⌜ 1 ≤ number ⌝ }
+    ensures { λ r. ⌜ Told 0 (r .at) (r .value) (after at (ranged least most number (now (s .entry)))) × (r .value ≤ most) ⌝ }
+{
+    let read = byte_at(s, at);
+    let value = read.value;
+    if in_range(value as usize, least, most) {
+        return read;
+    }
+    let end = read.at;
+    Byte {
+        value: 0,
+        at: refuse(at, end, number),
     }
 }
 
@@ -182,82 +163,31 @@ pub fn refuse(start: Cursor, end: Cursor, number: u8) -> Cursor
 pub fn count_at(s: &[u8], at: Cursor, most: usize) -> Byte
     ensures { λ r. ⌜ Told 0 (r .at) (r .value) (after at (count most (now (s .entry)))) × (r .value ≤ most) ⌝ }
 {
-    let read = byte_at(s, at);
-    let value = read.value;
-    let end = read.at;
-    if value as usize <= most {
-        return Byte {
-            value: value,
-            at: end,
-        };
-    }
-    Byte {
-        value: 0,
-        at: refuse(at, end, ABOVE_LIMIT),
-    }
+    ranged_at(s, at, 0, most, ABOVE_LIMIT)
 }
 
 // A number in its range
 pub fn within_at(s: &[u8], at: Cursor, least: u8, most: u8) -> Byte
     ensures { λ r. ⌜ Told 0 (r .at) (r .value) (after at (within least most (now (s .entry)))) ⌝ }
 {
-    let read = byte_at(s, at);
-    let value = read.value;
-    let end = read.at;
-    if value < least {
-        return Byte {
-            value: 0,
-            at: refuse(at, end, OUT_OF_RANGE),
-        };
-    }
-    if value <= most {
-        return Byte {
-            value: value,
-            at: end,
-        };
-    }
-    Byte {
-        value: 0,
-        at: refuse(at, end, OUT_OF_RANGE),
-    }
+    ranged_at(s, at, least as usize, most as usize, OUT_OF_RANGE)
 }
 
-// The second place of an atom whose first is p
+// The second place of an atom whose first is p; they are not both 0.
 pub fn second_at(s: &[u8], at: Cursor, v: u8, p: u8) -> Byte
     ensures { λ r. ⌜ Told 0 (r .at) (r .value) (after at (second v p (now (s .entry)))) ⌝ }
 {
-    let read = byte_at(s, at);
-    let value = read.value;
-    let end = read.at;
-    if v < value {
-        return Byte {
-            value: 0,
-            at: refuse(at, end, OUT_OF_RANGE),
-        };
+    if p == 0 {
+        return within_at(s, at, 1, v);
     }
-    if p != 0 {
-        return Byte {
-            value: value,
-            at: end,
-        };
-    }
-    if value != 0 {
-        return Byte {
-            value: value,
-            at: end,
-        };
-    }
-    Byte {
-        value: 0,
-        at: refuse(at, end, OUT_OF_RANGE),
-    }
+    within_at(s, at, 0, v)
 }
 
 // The number c of an atom
 pub fn constant_at(s: &[u8], at: Cursor) -> Constant
     ensures { λ r. ⌜ Told (pos 0) (r .at) (r .value) (after at (constant (now (s .entry)))) ⌝ }
 {
-    let read = quad_at(s, at);
+    let read = number_at(s, at, 4);
     let value = read.value;
     let end = read.at;
     if value <= 1_000_000 {
@@ -283,39 +213,17 @@ pub fn constant_at(s: &[u8], at: Cursor) -> Constant
 pub fn rule_at(s: &[u8], at: Cursor) -> Byte
     ensures { λ r. ⌜ Told 0 (r .at) (r .value) (after at (rule (now (s .entry)))) ⌝ }
 {
-    let read = byte_at(s, at);
-    let value = read.value;
-    let end = read.at;
-    if value < 1 {
-        return Byte {
-            value: 0,
-            at: refuse(at, end, UNKNOWN_RULE),
-        };
-    }
-    if value <= 8 {
-        return Byte {
-            value: value,
-            at: end,
-        };
-    }
-    Byte {
-        value: 0,
-        at: refuse(at, end, UNKNOWN_RULE),
-    }
+    ranged_at(s, at, 1, 8, UNKNOWN_RULE)
 }
 
 // The number of steps
 pub fn step_count_at(s: &[u8], at: Cursor) -> Wide
     ensures { λ r. ⌜ Told 0 (r .at) (r .value) (after at (stepCount (now (s .entry)))) × (r .value ≤ mostSteps) ⌝ }
 {
-    let read = pair_at(s, at);
-    let value = read.value;
+    let read = number_at(s, at, 2);
     let end = read.at;
-    if value <= MOST_STEPS {
-        return Wide {
-            value: value,
-            at: end,
-        };
+    if read.value <= MOST_STEPS {
+        return read;
     }
     Wide {
         value: 0,
@@ -327,10 +235,9 @@ pub fn step_count_at(s: &[u8], at: Cursor) -> Wide
 pub fn version_at(s: &[u8], at: Cursor) -> Cursor
     ensures { λ r. ⌜ viewed r 1 ≡ after at (version (now (s .entry))) ⌝ }
 {
-    let read = pair_at(s, at);
-    let value = read.value;
+    let read = number_at(s, at, 2);
     let end = read.at;
-    if value == 1 {
+    if read.value == 1 {
         return end;
     }
     refuse(at, end, WRONG_MARK)
@@ -355,25 +262,12 @@ fn same_at(s: &[u8], i: usize, b: &[u8]) -> bool
 pub fn mark_at(s: &[u8], at: Cursor) -> Cursor
     ensures { λ r. ⌜ viewed r letters ≡ after at (mark (now (s .entry))) ⌝ }
 {
-    match at {
-        Cursor::At { place } => {
-            if fits(s, place, 3) {
-                if same_at(s, place, b"DRF") {
-                    return Cursor::At { place: place + 3 };
-                }
-                return Cursor::Refused {
-                    number: WRONG_MARK,
-                    place: place,
-                };
-            }
-            Cursor::Refused {
-                number: ENDS_INSIDE,
-                place: place,
-            }
+    let end = past(s, at, 3);
+    if let Cursor::At { place: next } = end {
+        if same_at(s, next - 3, b"DRF") {
+            return end;
         }
-        Cursor::Refused { number, place } => Cursor::Refused {
-            number: number,
-            place: place,
-        },
+        return refuse(at, end, WRONG_MARK);
     }
+    end
 }

@@ -37,44 +37,35 @@ use Rattle.fields.specs.declared.Cursor.the-variants as C
 
 module _ (s : List ℕ) where
   pub atom-parts : (v : ℕ) (c₀ c₁ c₂ c₃ : Cursor) (p q : ℕ) (c : ℤ) → viewed c₁ p ≡ after c₀ (within 0 v s) → viewed c₂ q ≡ after c₁ (second v p s) → viewed c₃ c ≡ after c₂ (constant s)
-      → viewed c₃ (record { p = p; q = q; c = c }) ≡ after c₀ (atom v s)
+      → Leads c₀ c₃ (record { p = p; q = q; c = c }) s (atom v)
   unfolding atom
-  atom-parts v c₀ c₁ c₂ c₃ p q c e₁ e₂ e₃ = all .so
-    where
-      all : Leads c₀ c₃ (record { p = p; q = q; c = c }) s (atom v)
-      all =
-          leads-then _ (leads c₀ c₁ p (within 0 v) e₁)
-          (leads-then _ (leads c₁ c₂ q (second v p) e₂)
-          (leads-give (λ z. record { p = p; q = q; c = z }) (leads c₂ c₃ c constant e₃)))
+  atom-parts v c₀ c₁ c₂ c₃ p q c e₁ e₂ e₃ =
+      leads-then _ (leads c₀ c₁ p (within 0 v) e₁)
+      (leads-then _ (leads c₁ c₂ q (second v p) e₂)
+      (leads-give (λ z. record { p = p; q = q; c = z }) (leads c₂ c₃ c constant e₃)))
 
   pub literal-parts : (arities : List ℕ) (v m n : ℕ) (c₀ c₁ c₂ c₃ c₄ c₅ : Cursor) (g r x y z : ℕ) → m ≡ length arities → n ≡ arityOf arities r
       → viewed c₁ g ≡ after c₀ (within 0 1 s) → viewed c₂ r ≡ after c₁ (within 1 m s)
       → viewed c₃ x ≡ after c₂ (argument v n 1 s) → viewed c₄ y ≡ after c₃ (argument v n 2 s) → viewed c₅ z ≡ after c₄ (argument v n 3 s)
-      → viewed c₅ (record { positive = eqb g 1; predicate = r; x = x; y = y; z = z }) ≡ after c₀ (literal arities v s)
+      → Leads c₀ c₅ (record { positive = eqb g 1; predicate = r; x = x; y = y; z = z }) s (literal arities v)
   unfolding literal
-  literal-parts arities v m n c₀ c₁ c₂ c₃ c₄ c₅ g r x y z b a e₁ e₂ e₃ e₄ e₅ = all .so
-    where
-      all : Leads c₀ c₅ (record { positive = eqb g 1; predicate = r; x = x; y = y; z = z }) s (literal arities v)
-      all =
-          leads-then _ (leads c₀ c₁ g (within 0 1) e₁)
-          (leads-then _ (leads c₁ c₂ r (within 1 (length arities)) (rw b at e₂))
-          (leads-then _ (leads c₂ c₃ x (argument v (arityOf arities r) 1) (rw a at e₃))
-          (leads-then _ (leads c₃ c₄ y (argument v (arityOf arities r) 2) (rw a at e₄))
-          (leads-give (λ k. record { positive = eqb g 1; predicate = r; x = x; y = y; z = k }) (leads c₄ c₅ z (argument v (arityOf arities r) 3) (rw a at e₅))))))
+  literal-parts arities v m n c₀ c₁ c₂ c₃ c₄ c₅ g r x y z b a e₁ e₂ e₃ e₄ e₅ =
+      leads-then _ (leads c₀ c₁ g (within 0 1) e₁)
+      (leads-then _ (leads c₁ c₂ r (within 1 (length arities)) (rw b at e₂))
+      (leads-then _ (leads c₂ c₃ x (argument v (arityOf arities r) 1) (rw a at e₃))
+      (leads-then _ (leads c₃ c₄ y (argument v (arityOf arities r) 2) (rw a at e₄))
+      (leads-give (λ k. record { positive = eqb g 1; predicate = r; x = x; y = y; z = k }) (leads c₄ c₅ z (argument v (arityOf arities r) 3) (rw a at e₅))))))
 
   pub clause-parts : (arities : List ℕ) (c₀ c₁ c₂ c₃ c₄ c₅ : Cursor) (v n m : ℕ) (az : List Atom) (ls : List Literal)
       → viewed c₁ v ≡ after c₀ (count mostVariables s) → viewed c₂ n ≡ after c₁ (count mostAtoms s) → viewed c₃ m ≡ after c₂ (count mostLiterals s)
       → viewed c₄ az ≡ after c₃ (times n (atom v) s) → viewed c₅ ls ≡ after c₄ (times m (literal arities v) s)
-      → viewed c₅ (record { variables = v; atoms = az; literals = ls }) ≡ after c₀ (clauseFields arities s)
-  clause-parts arities c₀ c₁ c₂ c₃ c₄ c₅ v n m az ls e₁ e₂ e₃ e₄ e₅ = all .so
-    where
-      all : Leads c₀ c₅ (record { variables = v; atoms = az; literals = ls }) s (clauseFields arities)
-      all =
-          leads-then _ (leads c₀ c₁ v (count mostVariables) e₁)
-          (leads-then _ (leads c₁ c₂ n (count mostAtoms) e₂)
-          (leads-then _ (leads c₂ c₃ m (count mostLiterals) e₃)
-          (leads-then _ (leads c₃ c₄ az (times n (atom v)) e₄)
-          (leads-give (λ l. record { variables = v; atoms = az; literals = l }) (leads c₄ c₅ ls (times m (literal arities v)) e₅)))))
+      → Leads c₀ c₅ (record { variables = v; atoms = az; literals = ls }) s (clauseFields arities)
+  clause-parts arities c₀ c₁ c₂ c₃ c₄ c₅ v n m az ls e₁ e₂ e₃ e₄ e₅ =
+      leads-then _ (leads c₀ c₁ v (count mostVariables) e₁)
+      (leads-then _ (leads c₁ c₂ n (count mostAtoms) e₂)
+      (leads-then _ (leads c₂ c₃ m (count mostLiterals) e₃)
+      (leads-then _ (leads c₃ c₄ az (times n (atom v)) e₄)
+      (leads-give (λ l. record { variables = v; atoms = az; literals = l }) (leads c₄ c₅ ls (times m (literal arities v)) e₅)))))
 
   -- From what stands before the clauses, the clauses and the number of steps make the header.
   pub front-parts : (c₀ c₁ c₂ c₃ c₄ c₅ c₆ : Cursor) (k n : ℕ) (arities : List ℕ) (m : ℕ)
@@ -104,11 +95,9 @@ module _ (s : List ℕ) where
           (leads-then _ (leads c₅ c₆ m (count mostInput) e₆) (leads c₆ (reached rest) (given blank rest) (fromClauses k arities m) whole))))))
 
   pub rest-parts : (k : ℕ) (arities : List ℕ) (m : ℕ) (c₀ c₁ c₂ : Cursor) (cs : List Clause) (t : ℕ) → viewed c₁ cs ≡ after c₀ (times m (clause arities) s) → viewed c₂ t ≡ after c₁ (stepCount s)
-      → viewed c₂ (record { constants = k; arities = arities; input = cs; count = t }) ≡ after c₀ (fromClauses k arities m s)
-  rest-parts k arities m c₀ c₁ c₂ cs t e₁ e₂ = all .so
-    where
-      all : Leads c₀ c₂ (record { constants = k; arities = arities; input = cs; count = t }) s (fromClauses k arities m)
-      all = leads-then _ (leads c₀ c₁ cs (times m (clause arities)) e₁) (leads-give (λ z. record { constants = k; arities = arities; input = cs; count = z }) (leads c₁ c₂ t stepCount e₂))
+      → Leads c₀ c₂ (record { constants = k; arities = arities; input = cs; count = t }) s (fromClauses k arities m)
+  rest-parts k arities m c₀ c₁ c₂ cs t e₁ e₂ =
+      leads-then _ (leads c₀ c₁ cs (times m (clause arities)) e₁) (leads-give (λ z. record { constants = k; arities = arities; input = cs; count = z }) (leads c₁ c₂ t stepCount e₂))
 
 -- ---- arities
 

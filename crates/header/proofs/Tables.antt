@@ -4,18 +4,18 @@ use mathlib.Core.List.{List, [], _++_, _∷_, map, map-append}
 use Prim.Native.Nat.{_+_, _<_, ℕ}
 use native.Mathlib.Numerals.{add-one}
 use native.Mathlib.Omega.{arith}
-use lib.ListN.{length, length-map, replicate, set, take}
-use lib.Seq.{length-take-le, take-suc-set}
+use lib.ListN.{length, replicate, set, take}
+use lib.Seq.{take-suc-set}
 use Rattle.basis.specs.Limits.{mostClauses, mostPredicates}
-use Rattle.lists.proofs.Arrays.{exactly-length, exactly-none, set-exactly}
+use Rattle.lists.proofs.Arrays.{exactly-none}
 use Rattle.lists.specs.Arrays.{exactly}
 use Rattle.header.specs.Records.{Fronts, Held, arities, inputOf, packedHeader}
 use Rattle.header.specs.declared.Front.{Front}
 use Rattle.header.specs.declared.Predicates.{Predicates}
 use Rattle.calculus.specs.Clauses.{Clause, noClause}
 use Rattle.clauses.specs.Records.{clauseOf, packed}
-use Rattle.fields.proofs.Laws.{no-refusal, times-more, told-view}
-use Rattle.fields.specs.Views.{after, given, reached, viewed}
+use Rattle.fields.proofs.Laws.{filled-long, filled-more, filled-none, no-refusal, times-more, times-none, told-view}
+use Rattle.fields.specs.Views.{Filled, after, given, reached, viewed}
 use Rattle.fields.specs.declared.Cursor.{Cursor}
 use Rattle.header.proofs.Parts.{arities-count, rest-parts}
 use Rattle.runfile.proofs.Times.{times-length}
@@ -24,33 +24,27 @@ use Rattle.runfile.specs.Readers.{Reader, bad, got, times}
 use Rattle.fields.specs.declared.Cursor.the-variants as C
 use Rattle.clauses.specs.declared.Clause as records
 
--- A table of clauses whose first j are the records of what they say, the others blank
-abbrev pub Packed : List records.Clause → ℕ → Type 0
-Packed l j = l ≡ exactly mostClauses (packed noClause) (map packed (map clauseOf (take j l)))
+-- j clauses read by f from one cursor to another, stored in a table as the records of what they say; the other slots are blank
+pub record Stores (s : List ℕ) (f : Reader Clause) (j : ℕ) (c₀ c₁ : Cursor) (l : List records.Clause) : Type 0 where
+  pub reads : viewed c₁ (map clauseOf (take j l)) ≡ after c₀ (times j f s)
+  pub filled : Filled mostClauses (packed noClause) l j
+  pub same : map packed (map clauseOf (take j l)) ≡ take j l
 
--- What the first slots say, one slot more
-says-more : (l : List records.Clause) (j : ℕ) (x : records.Clause) → j < length l → map clauseOf (take (j + 1) (set l j x)) ≡ map clauseOf (take j l) ++ (clauseOf x ∷ [])
-says-more l j x h = ap (map clauseOf) (ap (λ (n : ℕ). take n (set l j x)) (add-one j) ∙ take-suc-set l j x h) ∙ map-append clauseOf (take j l) (x ∷ [])
+module _ {s : List ℕ} {f : Reader Clause} where
+  pub stores-none : (c : Cursor) → Stores s f 0 c c (replicate mostClauses (packed noClause))
+  stores-none c = record { reads = times-none s f c; filled = filled-none mostClauses (packed noClause); same = refl }
 
-pub table-long : (l : List records.Clause) (j : ℕ) → Packed l j → length l ≡ mostClauses
-table-long l j e = ap length e ∙ exactly-length (packed noClause) mostClauses (map packed (map clauseOf (take j l)))
-
-pub table-none : Packed (replicate mostClauses (packed noClause)) 0
-table-none = sym (exactly-none (packed noClause) mostClauses)
-
-pub table-more : (l : List records.Clause) (j : ℕ) (x : records.Clause) → j < mostClauses → Packed l j → x ≡ packed (clauseOf x) → Packed (set l j x) (j + 1)
-table-more l j x h e q =
-    let n = table-long l j e in
-    let ys = map packed (map clauseOf (take j l)) in
-    let k : length ys ≡ j = length-map (map clauseOf (take j l)) packed ∙ length-map (take j l) clauseOf ∙ length-take-le j l (omega arith) in
-    let z : set (exactly mostClauses (packed noClause) ys) j x ≡ exactly mostClauses (packed noClause) (ys ++ (x ∷ [])) = rw k at (set-exactly (packed noClause) mostClauses ys x (omega arith)) in
-    let w : map packed (map clauseOf (take j l) ++ (clauseOf x ∷ [])) ≡ ys ++ (x ∷ []) = map-append packed (map clauseOf (take j l)) (clauseOf x ∷ []) ∙ ap (λ (y : records.Clause). ys ++ (y ∷ [])) (sym q) in
-    ap (λ (t : List records.Clause). set t j x) e ∙ z ∙ ap (exactly mostClauses (packed noClause)) (sym (ap (map packed) (says-more l j x (omega arith)) ∙ w))
-
-pub table-view : (s : List ℕ) (f : Reader Clause) (c₀ c₁ c₂ : Cursor) (j : ℕ) (l : List records.Clause) (x : records.Clause) → j < length l
-    → viewed c₁ (map clauseOf (take j l)) ≡ after c₀ (times j f s) → viewed c₂ (clauseOf x) ≡ after c₁ (f s)
-    → viewed c₂ (map clauseOf (take (j + 1) (set l j x))) ≡ after c₀ (times (j + 1) f s)
-table-view s f c₀ c₁ c₂ j l x h e q = ap (viewed c₂) (says-more l j x h) ∙ times-more s f c₀ c₁ c₂ j (map clauseOf (take j l)) (clauseOf x) e q
+  pub stores-more : {j : ℕ} {c₀ c₁ : Cursor} {l : List records.Clause} (c₂ : Cursor) (x : records.Clause) → Stores s f j c₀ c₁ l → j < mostClauses → viewed c₂ (clauseOf x) ≡ after c₁ (f s) → x ≡ packed (clauseOf x)
+      → Stores s f (j + 1) c₀ c₂ (set l j x)
+  stores-more {j} {c₀} {c₁} {l} c₂ x e h q w =
+      let n = filled-long mostClauses (packed noClause) l j (e .filled) in
+      let t : take (j + 1) (set l j x) ≡ take j l ++ (x ∷ []) = rw (add-one j) (take-suc-set l j x (omega arith)) in
+      let k : map clauseOf (take (j + 1) (set l j x)) ≡ map clauseOf (take j l) ++ (clauseOf x ∷ []) = rw t (map-append clauseOf (take j l) (x ∷ [])) in
+      record {
+        reads = rw k (times-more s f c₀ c₁ c₂ j (map clauseOf (take j l)) (clauseOf x) (e .reads) q);
+        filled = filled-more mostClauses (packed noClause) l j x h (e .filled);
+        same = rw (k, t) (map-append packed (map clauseOf (take j l)) (clauseOf x ∷ []) ∙ rw (e .same, sym w));
+      }
 
 -- ---- the record of a header
 
@@ -64,7 +58,7 @@ module _ (s : List ℕ) (r : Front) (f : Fronts s r) (c₁ c₂ : Cursor) (t : �
     said = record { constants = r .constants; arities = arities (r .predicates); input = cs; count = t }
 
     whole-is : (c : Cursor) → c₂ ≡ c → header s 0 ≡ viewed c said
-    whole-is c z = sym (f .rest) ∙ sym (rest-parts s (r .constants) (arities (r .predicates)) (r .input) (r .at) c₁ c₂ cs t e₁ e₂) ∙ ap (λ (d : Cursor). viewed d said) z
+    whole-is c z = sym (f .rest) ∙ sym (rest-parts s (r .constants) (arities (r .predicates)) (r .input) (r .at) c₁ c₂ cs t e₁ e₂ .so) ∙ ap (λ (d : Cursor). viewed d said) z
 
     input-count : (place : ℕ) → c₂ ≡ C.At place → length cs ≡ r .input
     input-count place z = by (r .at) c₁ e₁ (sym (ap (λ (d : Cursor). viewed d t) z) ∙ e₂)
@@ -78,12 +72,12 @@ module _ (s : List ℕ) (r : Front) (f : Fronts s r) (c₁ c₂ : Cursor) (t : �
     input-is c z = sym (ap inputOf (whole-is c z))
 
   -- The clauses stored
-  module _ (l : List records.Clause) (e₁ : viewed c₁ (map clauseOf (take (r .input) l)) ≡ after (r .at) (times (r .input) (clause (arities (r .predicates))) s)) where
-    pub table-read : Packed l (r .input) → (place : ℕ) → c₂ ≡ C.At place → l ≡ exactly mostClauses (packed noClause) (map packed (inputOf (header s 0)))
-    table-read e place z = e ∙ ap (λ (xs : List Clause). exactly mostClauses (packed noClause) (map packed xs)) (input-is (map clauseOf (take (r .input) l)) e₁ (C.At place) z)
+  module _ (l : List records.Clause) (e₁ : Stores s (clause (arities (r .predicates))) (r .input) (r .at) c₁ l) where
+    pub table-read : (place : ℕ) → c₂ ≡ C.At place → l ≡ exactly mostClauses (packed noClause) (map packed (inputOf (header s 0)))
+    table-read place z = e₁ .filled ∙ ap (exactly mostClauses (packed noClause)) (sym (e₁ .same) ∙ ap (map packed) (input-is (map clauseOf (take (r .input) l)) (e₁ .reads) (C.At place) z))
 
     pub table-refused : (number place : ℕ) → c₂ ≡ C.Refused number place → replicate mostClauses (packed noClause) ≡ exactly mostClauses (packed noClause) (map packed (inputOf (header s 0)))
-    table-refused number place z = table-none ∙ ap (λ (xs : List Clause). exactly mostClauses (packed noClause) (map packed xs)) (input-is (map clauseOf (take (r .input) l)) e₁ (C.Refused number place) z)
+    table-refused number place z = filled-none mostClauses (packed noClause) ∙ ap (λ (xs : List Clause). exactly mostClauses (packed noClause) (map packed xs)) (input-is (map clauseOf (take (r .input) l)) (e₁ .reads) (C.Refused number place) z)
 
   -- The clauses judged one after another
   module _ (e₁ : c₁ ≡ reached (after (r .at) (times (r .input) (clause (arities (r .predicates))) s))) where

@@ -2,7 +2,6 @@
 ghost use mathlib.Core.List.{map};
 ghost use mathlib.Core.Path.{_≡_};
 ghost use Prim.Native.Nat.{_≤_};
-ghost use lib.ListN.{take};
 ghost use Rattle.basis.specs.Atoms.{noAtom};
 ghost use Rattle.basis.specs.Limits.{mostAtoms, mostClauses, mostLiterals, mostPredicates, mostArguments};
 ghost use Rattle.lists.specs.Arrays.{exactly};
@@ -11,7 +10,7 @@ ghost use Rattle.calculus.specs.Class.{arityOf};
 ghost use Rattle.clauses.specs.Records.{clauseOf, packed};
 ghost use Rattle.runfile.specs.Readers.{bad, times};
 ghost use Rattle.runfile.specs.File.{count, atom, argument, literal, clauseFields, clause, header};
-ghost use Rattle.fields.specs.Views.{after, reached, viewed, Filled};
+ghost use Rattle.fields.specs.Views.{Fills, after, reached, viewed};
 ghost use Rattle.header.specs.Records.{Fronts, Held, arities, inputOf, packedHeader};
 use admission::admit_clause;
 use basis::Atom;
@@ -45,34 +44,34 @@ pub struct Predicates {
     pub arities: [u8; MOST_PREDICATES],
 }
 
-pub struct PredicatesRead {
-    pub predicates: Predicates,
-    pub at: Cursor,
+struct PredicatesRead {
+    predicates: Predicates,
+    at: Cursor,
 }
 
-pub struct AtomRead {
-    pub atom: Atom,
-    pub at: Cursor,
+struct AtomRead {
+    atom: Atom,
+    at: Cursor,
 }
 
-pub struct AtomsRead {
-    pub atoms: [Atom; MOST_ATOMS],
-    pub at: Cursor,
+struct AtomsRead {
+    atoms: [Atom; MOST_ATOMS],
+    at: Cursor,
 }
 
-pub struct LiteralRead {
-    pub literal: Literal,
-    pub at: Cursor,
+struct LiteralRead {
+    literal: Literal,
+    at: Cursor,
 }
 
-pub struct LiteralsRead {
-    pub literals: [Literal; MOST_LITERALS],
-    pub at: Cursor,
+struct LiteralsRead {
+    literals: [Literal; MOST_LITERALS],
+    at: Cursor,
 }
 
-pub struct ClauseRead {
-    pub clause: Clause,
-    pub at: Cursor,
+struct ClauseRead {
+    clause: Clause,
+    at: Cursor,
 }
 
 // What stands before the input clauses, their number included, and the cursor there
@@ -116,7 +115,7 @@ fn atom_at(s: &[u8], at: Cursor, v: u8) -> AtomRead
 
 fn atoms_at(s: &[u8], at: Cursor, n: u8, v: u8) -> AtomsRead
     requires { ⌜ n ≤ mostAtoms ⌝ }
-    ensures { λ r. ⌜ (viewed (r .at) (take n (r .atoms)) ≡ after at (times n (atom v) (now (s .entry)))) × Filled mostAtoms noAtom (r .atoms) n ⌝ }
+    ensures { λ r. ⌜ Fills mostAtoms noAtom (now (s .entry)) (atom v) n at (r .at) (r .atoms) ⌝ }
 {
     let none = no_atom();
     let count = n as usize;
@@ -194,7 +193,7 @@ fn literal_at(s: &[u8], at: Cursor, ps: Predicates, v: u8) -> LiteralRead
 
 fn literals_at(s: &[u8], at: Cursor, n: u8, ps: Predicates, v: u8) -> LiteralsRead
     requires { ⌜ (n ≤ mostLiterals) × Held ps ⌝ }
-    ensures { λ r. ⌜ (viewed (r .at) (take n (r .literals)) ≡ after at (times n (literal (arities ps) v) (now (s .entry)))) × Filled mostLiterals noLiteral (r .literals) n ⌝ }
+    ensures { λ r. ⌜ Fills mostLiterals noLiteral (now (s .entry)) (literal (arities ps) v) n at (r .at) (r .literals) ⌝ }
 {
     let none = no_literal();
     let count = n as usize;
@@ -254,16 +253,13 @@ fn clause_at(s: &[u8], at: Cursor, ps: Predicates) -> ClauseRead
 {
     let read = clause_fields_at(s, at, ps);
     let clause = read.clause;
-    let end = read.at;
     let slots = ps.arities;
     let judged = admit_clause(ps.count, slots, clause);
     let number = judged.number;
     if number == 0 {
-        return ClauseRead {
-            clause: clause,
-            at: end,
-        };
+        return read;
     }
+    let end = read.at;
     ClauseRead {
         clause: clause,
         at: refuse(at, end, number),

@@ -8,76 +8,68 @@ use lib.Seq.{length-take-le}
 use borrow.Author.Tests.{le-leb, lt-leb, ne-eqb}
 use Rattle.basis.specs.Limits.{mostVariables}
 use Rattle.basis.specs.Refusals.{surplus}
-use Rattle.steps.specs.Records.{fileAnswer, inOrder, packedStep, stepAnswer, stepRecord}
+use Rattle.steps.specs.declared.StepRead.{StepRead}
+use Rattle.steps.specs.Records.{Packs, fileAnswer, inOrder, packedStep, stepAnswer, stepRecord}
 use Rattle.calculus.specs.States.{Backtrack, Conflict, Decide, Factorize, Grow, Propagate, Resolve, Skip}
-use Rattle.fields.proofs.Laws.{Leads, and-give, and-then, filled-long, leads, leads-give, leads-then, no-refusal, nothing, reached-of, same-refusal}
+use Rattle.fields.proofs.Laws.{Leads, and-then, filled-long, leads, leads-give, leads-then, no-refusal, nothing, reached-of, same-refusal}
 use Rattle.fields.specs.Views.{Filled, after, reached, viewed}
 use Rattle.fields.specs.declared.Cursor.{Cursor}
 use Rattle.header.specs.Records.{packedHeader}
 use Rattle.header.specs.declared.HeaderRead.{HeaderRead}
 use Rattle.rules.specs.declared.Step.{Step}
-use Rattle.runfile.specs.File.{count, instance, File, Header, byte, end, file, header, instance, rule, ruled, step, within}
+use Rattle.runfile.specs.File.{File, Header, byte, count, end, file, header, instance, rule, ruled, step, within}
 use Rattle.runfile.specs.Readers.{Got, Reader, _then_, bad, give, got, onward, times}
 use Rattle.fields.specs.declared.Cursor.the-variants as C
 use Rattle.calculus.specs.States as calculus
 
 -- A record whose instance is filled is the record of the step that it names.
-record-is : (r c l m g n k : ℕ) (τ : List ℕ) → k ≤ mostVariables → Filled mostVariables 0 τ k
-    → record { rule = r; clause = c; literal = l; other = m; sign = g; amount = n; count = k; instance = τ } ≡ stepRecord r c l m g n (take k τ)
-record-is r c l m g n k τ h e =
+pub record-is : (r c l g k : ℕ) (τ : List ℕ) → k ≤ mostVariables → Filled mostVariables 0 τ k
+    → record { rule = r; clause = c; literal = l; other = 0; sign = g; amount = 0; count = k; instance = τ } ≡ stepRecord r c l 0 g 0 (take k τ)
+record-is r c l g k τ h e =
     let i = filled-long mostVariables 0 τ k e in
     let j : length (take k τ) ≡ k = length-take-le k τ (omega arith) in
     sym (rw (j, sym e))
 
 module _ (s : List ℕ) where
-  module _ (k : ℕ) (τ : List ℕ) (h : k ≤ mostVariables) (f : Filled mostVariables 0 τ k) where
-    pub propagate-parts : (c₀ c₁ c₂ c₃ : Cursor) (c l : ℕ) → viewed c₁ c ≡ after c₀ (byte s) → viewed c₂ l ≡ after c₁ (byte s) → viewed c₃ (take k τ) ≡ after c₂ (instance s)
-        → viewed c₃ (record { rule = 1; clause = c; literal = l; other = 0; sign = 0; amount = 0; count = k; instance = τ }) ≡ after c₀ ((ruled 1 then λ x. give (packedStep x)) s)
-    unfolding ruled
-    propagate-parts c₀ c₁ c₂ c₃ c l e₁ e₂ e₃ = rw (record-is 1 c l 0 0 0 k τ h f) (and-give c₀ c₃ (Propagate c l (take k τ)) s (ruled 1) packedStep (all .so))
-      where
-        all : Leads c₀ c₃ (Propagate c l (take k τ)) s (ruled 1)
-        all = leads-then _ (leads c₀ c₁ c byte e₁) (leads-then _ (leads c₁ c₂ l byte e₂) (leads-give (Propagate c l) (leads c₂ c₃ (take k τ) instance e₃)))
+  packs : {c₀ c₁ : Cursor} {x : calculus.Step} (r : ℕ) → Leads c₀ c₁ x s (ruled r) → Packs s (ruled r) c₀ c₁ (packedStep x)
+  packs r e = leads-give packedStep e .so
 
-    pub decide-parts : (c₀ c₁ c₂ c₃ c₄ : Cursor) (c l g : ℕ) → viewed c₁ c ≡ after c₀ (byte s) → viewed c₂ l ≡ after c₁ (byte s) → viewed c₃ g ≡ after c₂ (within 0 1 s) → viewed c₄ (take k τ) ≡ after c₃ (instance s)
-        → viewed c₄ (record { rule = 2; clause = c; literal = l; other = 0; sign = g; amount = 0; count = k; instance = τ }) ≡ after c₀ ((ruled 2 then λ x. give (packedStep x)) s)
-    unfolding ruled
-    decide-parts c₀ c₁ c₂ c₃ c₄ c l g e₁ e₂ e₃ e₄ = rw (record-is 2 c l 0 g 0 k τ h f) (and-give c₀ c₄ (Decide c l g (take k τ)) s (ruled 2) packedStep (all .so))
-      where
-        all : Leads c₀ c₄ (Decide c l g (take k τ)) s (ruled 2)
-        all = leads-then _ (leads c₀ c₁ c byte e₁) (leads-then _ (leads c₁ c₂ l byte e₂) (leads-then _ (leads c₂ c₃ g (within 0 1) e₃) (leads-give (Decide c l g) (leads c₃ c₄ (take k τ) instance e₄))))
+  pub propagate-parts : (c₀ c₁ c₂ c₃ : Cursor) (c l : ℕ) (τ : List ℕ) → viewed c₁ c ≡ after c₀ (byte s) → viewed c₂ l ≡ after c₁ (byte s) → viewed c₃ τ ≡ after c₂ (instance s)
+      → Packs s (ruled 1) c₀ c₃ (packedStep (Propagate c l τ))
+  unfolding ruled
+  propagate-parts c₀ c₁ c₂ c₃ c l τ e₁ e₂ e₃ =
+      packs 1 (leads-then _ (leads c₀ c₁ c byte e₁) (leads-then _ (leads c₁ c₂ l byte e₂) (leads-give (Propagate c l) (leads c₂ c₃ τ instance e₃))))
 
-    pub conflict-parts : (c₀ c₁ c₂ : Cursor) (c : ℕ) → viewed c₁ c ≡ after c₀ (byte s) → viewed c₂ (take k τ) ≡ after c₁ (instance s)
-        → viewed c₂ (record { rule = 3; clause = c; literal = 0; other = 0; sign = 0; amount = 0; count = k; instance = τ }) ≡ after c₀ ((ruled 3 then λ x. give (packedStep x)) s)
-    unfolding ruled
-    conflict-parts c₀ c₁ c₂ c e₁ e₂ = rw (record-is 3 c 0 0 0 0 k τ h f) (and-give c₀ c₂ (Conflict c (take k τ)) s (ruled 3) packedStep (all .so))
-      where
-        all : Leads c₀ c₂ (Conflict c (take k τ)) s (ruled 3)
-        all = leads-then _ (leads c₀ c₁ c byte e₁) (leads-give (Conflict c) (leads c₁ c₂ (take k τ) instance e₂))
+  pub decide-parts : (c₀ c₁ c₂ c₃ c₄ : Cursor) (c l g : ℕ) (τ : List ℕ) → viewed c₁ c ≡ after c₀ (byte s) → viewed c₂ l ≡ after c₁ (byte s) → viewed c₃ g ≡ after c₂ (within 0 1 s) → viewed c₄ τ ≡ after c₃ (instance s)
+      → Packs s (ruled 2) c₀ c₄ (packedStep (Decide c l g τ))
+  unfolding ruled
+  decide-parts c₀ c₁ c₂ c₃ c₄ c l g τ e₁ e₂ e₃ e₄ =
+      packs 2 (leads-then _ (leads c₀ c₁ c byte e₁) (leads-then _ (leads c₁ c₂ l byte e₂) (leads-then _ (leads c₂ c₃ g (within 0 1) e₃) (leads-give (Decide c l g) (leads c₃ c₄ τ instance e₄)))))
+
+  pub conflict-parts : (c₀ c₁ c₂ : Cursor) (c : ℕ) (τ : List ℕ) → viewed c₁ c ≡ after c₀ (byte s) → viewed c₂ τ ≡ after c₁ (instance s) → Packs s (ruled 3) c₀ c₂ (packedStep (Conflict c τ))
+  unfolding ruled
+  conflict-parts c₀ c₁ c₂ c τ e₁ e₂ = packs 3 (leads-then _ (leads c₀ c₁ c byte e₁) (leads-give (Conflict c) (leads c₁ c₂ τ instance e₂)))
 
   module _ (c₀ c₁ : Cursor) (l : ℕ) (e : viewed c₁ l ≡ after c₀ (byte s)) where
-    pub resolve-parts : viewed c₁ (packedStep (Resolve l)) ≡ after c₀ ((ruled 4 then λ x. give (packedStep x)) s)
+    pub resolve-parts : Packs s (ruled 4) c₀ c₁ (packedStep (Resolve l))
     unfolding ruled
-    resolve-parts = and-give c₀ c₁ (Resolve l) s (ruled 4) packedStep (and-give c₀ c₁ l s byte Resolve e)
+    resolve-parts = packs 4 (leads-give Resolve (leads c₀ c₁ l byte e))
 
-    pub backtrack-parts : viewed c₁ (packedStep (Backtrack l)) ≡ after c₀ ((ruled 7 then λ x. give (packedStep x)) s)
+    pub factorize-parts : (c₂ : Cursor) (m : ℕ) → viewed c₂ m ≡ after c₁ (byte s) → Packs s (ruled 5) c₀ c₂ (packedStep (Factorize l m))
     unfolding ruled
-    backtrack-parts = and-give c₀ c₁ (Backtrack l) s (ruled 7) packedStep (and-give c₀ c₁ l s byte Backtrack e)
+    factorize-parts c₂ m h = packs 5 (leads-then _ (leads c₀ c₁ l byte e) (leads-give (Factorize l) (leads c₁ c₂ m byte h)))
 
-    pub grow-parts : viewed c₁ (packedStep (Grow l)) ≡ after c₀ ((ruled 8 then λ x. give (packedStep x)) s)
+    pub backtrack-parts : Packs s (ruled 7) c₀ c₁ (packedStep (Backtrack l))
     unfolding ruled
-    grow-parts = and-give c₀ c₁ (Grow l) s (ruled 8) packedStep (and-give c₀ c₁ l s byte Grow e)
+    backtrack-parts = packs 7 (leads-give Backtrack (leads c₀ c₁ l byte e))
 
-    pub factorize-parts : (c₂ : Cursor) (m : ℕ) → viewed c₂ m ≡ after c₁ (byte s) → viewed c₂ (packedStep (Factorize l m)) ≡ after c₀ ((ruled 5 then λ x. give (packedStep x)) s)
+    pub grow-parts : Packs s (ruled 8) c₀ c₁ (packedStep (Grow l))
     unfolding ruled
-    factorize-parts c₂ m h = and-give c₀ c₂ (Factorize l m) s (ruled 5) packedStep (all .so)
-      where
-        all : Leads c₀ c₂ (Factorize l m) s (ruled 5)
-        all = leads-then _ (leads c₀ c₁ l byte e) (leads-give (Factorize l) (leads c₁ c₂ m byte h))
+    grow-parts = packs 8 (leads-give Grow (leads c₀ c₁ l byte e))
 
-  pub skip-parts : (c : Cursor) → viewed c (packedStep Skip) ≡ after c ((ruled 6 then λ x. give (packedStep x)) s)
+  pub skip-parts : (c : Cursor) → Packs s (ruled 6) c c (packedStep Skip)
   unfolding ruled
-  skip-parts c = and-give c c Skip s (ruled 6) packedStep (nothing c Skip s)
+  skip-parts c = packs 6 (leads c c Skip (give Skip) (nothing c Skip s))
 
   pub instance-parts : (c₀ c₁ c₂ : Cursor) (n : ℕ) (τ : List ℕ) → viewed c₁ n ≡ after c₀ (count mostVariables s) → viewed c₂ τ ≡ after c₁ (times n byte s) → viewed c₂ τ ≡ after c₀ (instance s)
   instance-parts c₀ c₁ c₂ n τ e₁ e₂ = and-then c₀ c₁ c₂ n τ s (count mostVariables) (λ n. times n byte) e₁ e₂
@@ -95,26 +87,26 @@ module _ (s : List ℕ) where
       by (bad n p) = refl
   assoc (C.Refused n p) f g h = refl
 
-  pub step-parts : (c₀ c₁ c₂ : Cursor) (r : ℕ) (x : Step) → viewed c₁ r ≡ after c₀ (rule s) → viewed c₂ x ≡ after c₁ ((ruled r then λ y. give (packedStep y)) s)
-      → viewed c₂ x ≡ after c₀ ((step then λ y. give (packedStep y)) s)
+  pub step-parts : (c₀ c₁ c₂ : Cursor) (r : ℕ) (x : Step) → viewed c₁ r ≡ after c₀ (rule s) → Packs s (ruled r) c₁ c₂ x → Packs s step c₀ c₂ x
   unfolding step
   step-parts c₀ c₁ c₂ r x e h = and-then c₀ c₁ c₂ r x s rule (λ r. ruled r then λ y. give (packedStep y)) e h ∙ assoc c₀ rule ruled packedStep
 
   -- ---- an answer of its own
 
-  pub step-read : (i : ℕ) (c : Cursor) (x : Step) (j : ℕ) → viewed c x ≡ (step then λ y. give (packedStep y)) s i → c ≡ C.At j → record { step = x; at = C.At j } ≡ stepAnswer (step s i)
-  step-read i c x j e z = by (step s i) (sym (ap (λ (d : Cursor). viewed d x) z) ∙ e)
-    where
-      by : (g : Got calculus.Step) → got x j ≡ onward g (λ y k. got (packedStep y) k) → record { step = x; at = C.At j } ≡ stepAnswer g
-      by (got y k) q = cc
-      by (bad n p) q = no-refusal q
+  module _ (i : ℕ) (r : StepRead) (e : Packs s step (C.At i) (r .at) (r .step)) where
+    pub step-read : (j : ℕ) → r .at ≡ C.At j → r ≡ stepAnswer (step s i)
+    step-read j z = by (step s i) (sym (ap (λ (d : Cursor). viewed d (r .step)) z) ∙ e)
+      where
+        by : (g : Got calculus.Step) → got (r .step) j ≡ onward g (λ y k. got (packedStep y) k) → r ≡ stepAnswer g
+        by (got y k) q = let a : r .step ≡ packedStep y = cc in let b : r .at ≡ C.At k = cc in rw (sym a, sym b)
+        by (bad n p) q = no-refusal q
 
-  pub step-refused : (i : ℕ) (c : Cursor) (x : Step) (n p : ℕ) → viewed c x ≡ (step then λ y. give (packedStep y)) s i → c ≡ C.Refused n p → stepAnswer (bad n p) ≡ stepAnswer (step s i)
-  step-refused i c x n p e z = by (step s i) (sym (ap (λ (d : Cursor). viewed d x) z) ∙ e)
-    where
-      by : (g : Got calculus.Step) → bad n p ≡ onward g (λ y k. got (packedStep y) k) → stepAnswer (bad n p) ≡ stepAnswer g
-      by (got y k) q = no-refusal (sym q)
-      by (bad m r) q = ap stepAnswer (same-refusal q)
+    pub step-refused : (n p : ℕ) → r .at ≡ C.Refused n p → stepAnswer (bad n p) ≡ stepAnswer (step s i)
+    step-refused n p z = by (step s i) (sym (ap (λ (d : Cursor). viewed d (r .step)) z) ∙ e)
+      where
+        by : (g : Got calculus.Step) → bad n p ≡ onward g (λ y k. got (packedStep y) k) → stepAnswer (bad n p) ≡ stepAnswer g
+        by (got y k) q = no-refusal (sym q)
+        by (bad m q₁) q = ap stepAnswer (same-refusal q)
 
 -- ---- the whole file
 
@@ -127,7 +119,7 @@ module _ {A B : Type 0} where
       by (bad n p) = refl
   reached-through s (C.Refused n p) f y = refl
 
-pub step-ends : (s : List ℕ) (c₁ c₂ : Cursor) (x : Step) → viewed c₂ x ≡ after c₁ ((step then λ y. give (packedStep y)) s) → c₂ ≡ reached (after c₁ (step s))
+pub step-ends : (s : List ℕ) (c₁ c₂ : Cursor) (x : Step) → Packs s step c₁ c₂ x → c₂ ≡ reached (after c₁ (step s))
 step-ends s c₁ c₂ x e = reached-of c₂ x e ∙ reached-through s c₁ step packedStep
 
 abbrev saying : Header → List calculus.Step → File

@@ -2,14 +2,16 @@
 use mathlib.Core.Path.{_≡_}
 use mathlib.Core.List.{List, []}
 use Prim.Native.Nat.{ℕ}
-use lib.ListN.{length}
+use lib.ListN.{length, take}
 use Rattle.basis.specs.Limits.{mostVariables}
 use Rattle.lists.specs.Arrays.{exactly}
 use Rattle.calculus.specs.States.{Propagate, Decide, Conflict, Resolve, Factorize, Skip, Backtrack, Grow, Unknown}
 use Rattle.calculus.specs.States as calculus
-use Rattle.runfile.specs.Readers.{Got, got, bad}
-use Rattle.runfile.specs.File.{File, Header, header, file}
+use Rattle.runfile.specs.Readers.{Got, Reader, _then_, bad, give, got}
+use Rattle.runfile.specs.File.{File, Header, file, header, instance}
 use Rattle.runfile.specs.Claims.{StepHeld}
+use Rattle.fields.specs.Views.{after, viewed}
+use Rattle.fields.specs.declared.Cursor.{Cursor}
 use Rattle.fields.specs.declared.Cursor.the-variants as C
 use Rattle.header.specs.declared.HeaderRead.{HeaderRead}
 use Rattle.header.specs.Records.{packedHeader}
@@ -32,6 +34,19 @@ packedStep Skip = stepRecord 6 0 0 0 0 0 []
 packedStep (Backtrack l) = stepRecord 7 0 l 0 0 0 []
 packedStep (Grow n) = stepRecord 8 0 0 0 0 n []
 packedStep (Unknown r) = stepRecord r 0 0 0 0 0 []
+
+-- x and the cursor c₁ are the record of the step that f reads of the file s from the cursor c₀ on, and the cursor after it.
+abbrev pub Packs : (s : List ℕ) (f : Reader calculus.Step) (c₀ c₁ : Cursor) → Step → Type 0
+Packs s f c₀ c₁ x = viewed c₁ x ≡ after c₀ ((f then λ y. give (packedStep y)) s)
+
+-- The instance of a step record
+abbrev pub instanceIn : Step → List ℕ
+instanceIn x = take (x .count) (x .instance)
+
+-- An instance read from a cursor on, in the record r of a step with the other arguments that are named
+pub record Instanced (s : List ℕ) (at : Cursor) (rule clause literal sign : ℕ) (r : StepRead) : Type 0 where
+  pub reads : viewed (r .at) (instanceIn (r .step)) ≡ after at (instance s)
+  pub is : r .step ≡ stepRecord rule clause literal 0 sign 0 (instanceIn (r .step))
 
 -- The answer of reading a step; blank where it is refused
 abbrev pub stepAnswer : Got calculus.Step → StepRead

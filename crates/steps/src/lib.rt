@@ -4,11 +4,10 @@ ghost use mathlib.Core.Path.{_≡_};
 ghost use Prim.Native.Nat.{_≤_};
 ghost use lib.ListN.{take};
 ghost use Rattle.basis.specs.Limits.{mostVariables};
-ghost use Rattle.calculus.specs.States as calculus;
-ghost use Rattle.runfile.specs.Readers.{_then_, give, times};
+ghost use Rattle.runfile.specs.Readers.{times};
 ghost use Rattle.runfile.specs.File.{byte, instance, ruled, step, end};
-ghost use Rattle.fields.specs.Views.{after, reached, viewed, Filled};
-ghost use Rattle.steps.specs.Records.{stepRecord, packedStep, stepAnswer, fileAnswer};
+ghost use Rattle.fields.specs.Views.{Filled, Fills, after, reached, viewed};
+ghost use Rattle.steps.specs.Records.{Instanced, Packs, fileAnswer, stepAnswer, stepRecord};
 use basis::MOST_VARIABLES;
 use basis::SURPLUS;
 use fields::Cursor;
@@ -21,10 +20,11 @@ use header::no_header;
 use header::read_header;
 use rules::Step;
 
-pub struct InstanceRead {
-    pub count: u8,
-    pub instance: [u8; MOST_VARIABLES],
-    pub at: Cursor,
+// An instance and the cursor after it; slots past the count are 0.
+struct InstanceRead {
+    count: u8,
+    instance: [u8; MOST_VARIABLES],
+    at: Cursor,
 }
 
 // A step and the cursor after it; a blank step where it is refused
@@ -38,7 +38,7 @@ pub struct StepRead {
 // n constants
 fn constants_at(s: &[u8], at: Cursor, n: u8) -> InstanceRead
     requires { ⌜ n ≤ mostVariables ⌝ }
-    ensures { λ r. ⌜ (r .count ≡ n) × (viewed (r .at) (take n (r .instance)) ≡ after at (times n byte (now (s .entry)))) × Filled mostVariables 0 (r .instance) n ⌝ }
+    ensures { λ r. ⌜ (r .count ≡ n) × Fills mostVariables 0 (now (s .entry)) byte n at (r .at) (r .instance) ⌝ }
 {
     let count = n as usize;
     let mut instance = [0u8; MOST_VARIABLES];
@@ -69,12 +69,12 @@ fn instance_at(s: &[u8], at: Cursor) -> InstanceRead
 
 // ---- steps
 
-// A step without an instance
-fn bare(rule: u8, literal: u8, other: u8, amount: u8) -> Step
-    ensures { λ r. ⌜ r ≡ stepRecord rule 0 literal other 0 amount [] ⌝ }
+// A step without an instance, and the cursor after it
+fn bare(rule: u8, literal: u8, other: u8, amount: u8, at: Cursor) -> StepRead
+    ensures { λ r. ⌜ r ≡ record { step = stepRecord rule 0 literal other 0 amount []; at = at } ⌝ }
 {
     let none = [0u8; MOST_VARIABLES];
-    Step {
+    let step = Step {
         rule: rule,
         clause: 0,
         literal: literal,
@@ -83,25 +83,23 @@ fn bare(rule: u8, literal: u8, other: u8, amount: u8) -> Step
         amount: amount,
         count: 0,
         instance: none,
-    }
+    };
+    StepRead { step: step, at: at }
 }
 
-fn propagate_at(s: &[u8], at: Cursor) -> StepRead
-    ensures { λ r. ⌜ viewed (r .at) (r .step) ≡ after at ((ruled 1 then λ x. give (packedStep x)) (now (s .entry))) ⌝ }
+// A step with an instance, which is still to be read, and the cursor after it
+fn instanced_at(s: &[u8], at: Cursor, rule: u8, clause: u8, literal: u8, sign: u8) -> StepRead
+    ensures { λ r. ⌜ Instanced (now (s .entry)) at rule clause literal sign r ⌝ }
 {
-    let c = byte_at(s, at);
-    let past_c = c.at;
-    let l = byte_at(s, past_c);
-    let past_l = l.at;
-    let tau = instance_at(s, past_l);
+    let tau = instance_at(s, at);
     let past = tau.at;
     let constants = tau.instance;
     let step = Step {
-        rule: 1,
-        clause: c.value,
-        literal: l.value,
+        rule: rule,
+        clause: clause,
+        literal: literal,
         other: 0,
-        sign: 0,
+        sign: sign,
         amount: 0,
         count: tau.count,
         instance: constants,
@@ -112,8 +110,18 @@ fn propagate_at(s: &[u8], at: Cursor) -> StepRead
     }
 }
 
+fn propagate_at(s: &[u8], at: Cursor) -> StepRead
+    ensures { λ r. ⌜ Packs (now (s .entry)) (ruled 1) at (r .at) (r .step) ⌝ }
+{
+    let c = byte_at(s, at);
+    let past_c = c.at;
+    let l = byte_at(s, past_c);
+    let past_l = l.at;
+    instanced_at(s, past_l, 1, c.value, l.value, 0)
+}
+
 fn decide_at(s: &[u8], at: Cursor) -> StepRead
-    ensures { λ r. ⌜ viewed (r .at) (r .step) ≡ after at ((ruled 2 then λ x. give (packedStep x)) (now (s .entry))) ⌝ }
+    ensures { λ r. ⌜ Packs (now (s .entry)) (ruled 2) at (r .at) (r .step) ⌝ }
 {
     let c = byte_at(s, at);
     let past_c = c.at;
@@ -121,125 +129,54 @@ fn decide_at(s: &[u8], at: Cursor) -> StepRead
     let past_l = l.at;
     let sign = within_at(s, past_l, 0, 1);
     let past_sign = sign.at;
-    let tau = instance_at(s, past_sign);
-    let past = tau.at;
-    let constants = tau.instance;
-    let step = Step {
-        rule: 2,
-        clause: c.value,
-        literal: l.value,
-        other: 0,
-        sign: sign.value,
-        amount: 0,
-        count: tau.count,
-        instance: constants,
-    };
-    StepRead {
-        step: step,
-        at: past,
-    }
-}
-
-fn conflict_at(s: &[u8], at: Cursor) -> StepRead
-    ensures { λ r. ⌜ viewed (r .at) (r .step) ≡ after at ((ruled 3 then λ x. give (packedStep x)) (now (s .entry))) ⌝ }
-{
-    let c = byte_at(s, at);
-    let past_c = c.at;
-    let tau = instance_at(s, past_c);
-    let past = tau.at;
-    let constants = tau.instance;
-    let step = Step {
-        rule: 3,
-        clause: c.value,
-        literal: 0,
-        other: 0,
-        sign: 0,
-        amount: 0,
-        count: tau.count,
-        instance: constants,
-    };
-    StepRead {
-        step: step,
-        at: past,
-    }
-}
-
-fn resolve_at(s: &[u8], at: Cursor) -> StepRead
-    ensures { λ r. ⌜ viewed (r .at) (r .step) ≡ after at ((ruled 4 then λ x. give (packedStep x)) (now (s .entry))) ⌝ }
-{
-    let l = byte_at(s, at);
-    let past = l.at;
-    let step = bare(4, l.value, 0, 0);
-    StepRead {
-        step: step,
-        at: past,
-    }
+    instanced_at(s, past_sign, 2, c.value, l.value, sign.value)
 }
 
 fn factorize_at(s: &[u8], at: Cursor) -> StepRead
-    ensures { λ r. ⌜ viewed (r .at) (r .step) ≡ after at ((ruled 5 then λ x. give (packedStep x)) (now (s .entry))) ⌝ }
+    ensures { λ r. ⌜ Packs (now (s .entry)) (ruled 5) at (r .at) (r .step) ⌝ }
 {
     let l = byte_at(s, at);
     let past_l = l.at;
     let m = byte_at(s, past_l);
     let past = m.at;
-    let step = bare(5, l.value, m.value, 0);
-    StepRead {
-        step: step,
-        at: past,
-    }
-}
-
-fn skip_at(at: Cursor) -> StepRead
-    ensures { λ r. ⌜ r ≡ record { step = packedStep calculus.Skip; at = at } ⌝ }
-{
-    let step = bare(6, 0, 0, 0);
-    StepRead { step: step, at: at }
-}
-
-fn backtrack_at(s: &[u8], at: Cursor) -> StepRead
-    ensures { λ r. ⌜ viewed (r .at) (r .step) ≡ after at ((ruled 7 then λ x. give (packedStep x)) (now (s .entry))) ⌝ }
-{
-    let l = byte_at(s, at);
-    let past = l.at;
-    let step = bare(7, l.value, 0, 0);
-    StepRead {
-        step: step,
-        at: past,
-    }
-}
-
-fn grow_at(s: &[u8], at: Cursor) -> StepRead
-    ensures { λ r. ⌜ viewed (r .at) (r .step) ≡ after at ((ruled 8 then λ x. give (packedStep x)) (now (s .entry))) ⌝ }
-{
-    let n = byte_at(s, at);
-    let past = n.at;
-    let step = bare(8, 0, 0, n.value);
-    StepRead {
-        step: step,
-        at: past,
-    }
+    bare(5, l.value, m.value, 0, past)
 }
 
 // The arguments of a rule
 fn arguments_at(s: &[u8], at: Cursor, rule: u8) -> StepRead
-    ensures { λ r. ⌜ viewed (r .at) (r .step) ≡ after at ((ruled rule then λ x. give (packedStep x)) (now (s .entry))) ⌝ }
+    ensures { λ r. ⌜ Packs (now (s .entry)) (ruled rule) at (r .at) (r .step) ⌝ }
 {
     match rule {
         1 => propagate_at(s, at),
         2 => decide_at(s, at),
-        3 => conflict_at(s, at),
-        4 => resolve_at(s, at),
+        3 => {
+            let c = byte_at(s, at);
+            let past = c.at;
+            instanced_at(s, past, 3, c.value, 0, 0)
+        }
+        4 => {
+            let l = byte_at(s, at);
+            let past = l.at;
+            bare(4, l.value, 0, 0, past)
+        }
         5 => factorize_at(s, at),
-        6 => skip_at(at),
-        7 => backtrack_at(s, at),
-        _ => grow_at(s, at),
+        6 => bare(6, 0, 0, 0, at),
+        7 => {
+            let l = byte_at(s, at);
+            let past = l.at;
+            bare(7, l.value, 0, 0, past)
+        }
+        _ => {
+            let n = byte_at(s, at);
+            let past = n.at;
+            bare(8, 0, 0, n.value, past)
+        }
     }
 }
 
 // A step from a cursor on
 fn step_from(s: &[u8], at: Cursor) -> StepRead
-    ensures { λ r. ⌜ viewed (r .at) (r .step) ≡ after at ((step then λ x. give (packedStep x)) (now (s .entry))) ⌝ }
+    ensures { λ r. ⌜ Packs (now (s .entry)) step at (r .at) (r .step) ⌝ }
 {
     let rule = rule_at(s, at);
     let past = rule.at;
@@ -252,27 +189,14 @@ pub fn step_at(s: &[u8], place: usize) -> StepRead
 {
     let start = Cursor::At { place: place };
     let read = step_from(s, start);
-    let found = read.step;
     let past = read.at;
-    match past {
-        Cursor::At { place: next } => StepRead {
-            step: found,
-            at: Cursor::At { place: next },
-        },
-        Cursor::Refused {
-            number,
-            place: first,
-        } => {
-            let blank = bare(0, 0, 0, 0);
-            StepRead {
-                step: blank,
-                at: Cursor::Refused {
-                    number: number,
-                    place: first,
-                },
-            }
-        }
+    if let Cursor::Refused {
+        number,
+        place: first,
+    } = past {
+        return bare(0, 0, 0, 0, past);
     }
+    read
 }
 
 // ---- the whole file
@@ -302,17 +226,14 @@ fn end_at(s: &[u8], at: Cursor) -> Cursor
     match at {
         Cursor::At { place } => {
             if s.len() <= place {
-                return Cursor::At { place: place };
+                return at;
             }
             Cursor::Refused {
                 number: SURPLUS,
                 place: place,
             }
         }
-        Cursor::Refused { number, place } => Cursor::Refused {
-            number: number,
-            place: place,
-        },
+        Cursor::Refused { number, place } => at,
     }
 }
 

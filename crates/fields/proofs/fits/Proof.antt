@@ -1,22 +1,25 @@
 -- `fields::fits` meets its contract.
+use mathlib.Core.Path.{sym}
+use Prim.Native.Nat.{_+_}
 use native.Mathlib.Omega.{arith}
-use borrow.Author.Tests.{leb-true, leb-false}
-use Prim.Native.Nat.{_-_}
 use lib.ListN.{length}
 use denote.Ref.{now}
-use Rattle.fields.proofs.Bytes.{never}
+use borrow.Author.Tests.{le-leb, lt-leb}
 use borrow.Author.Needs.{needs}
 use Rattle.fields.proofs.fits.Statement.{statement}
 use Rattle.fields.proofs.fits.Tie as tie
 
 returns : tie.Need-returns
-returns c = record { yes = λ e. never e; no = λ _. omega arith }
+returns c = sym (lt-leb (c .before .args .i + c .before .args .n) (length (now (c .before .args .s))) (omega arith))
 
-sub-result : tie.Need-sub-result
-sub-result c = search needs
+sub-if2 : tie.Need-sub-if2
+sub-if2 c = search needs
 
 returns-2 : tie.Need-returns-2
-returns-2 c = record { yes = λ e. let h = leb-true (c .before .args .i) (length (now (c .before .args .s)) - c .before .args .n) e in omega arith; no = λ e. let h = leb-false (c .before .args .i) (length (now (c .before .args .s)) - c .before .args .n) e in omega arith }
+returns-2 c = sym (lt-leb (c .before .before .args .i + c .before .before .args .n) (length (now (c .before .before .args .s))) (omega arith))
+
+returns-3 : tie.Need-returns-3
+returns-3 c = sym (le-leb (c .before .before .args .i + c .before .before .args .n) (length (now (c .before .before .args .s))) (omega arith))
 
 pub fits-spec : {M : Type 1} → statement M
-fits-spec = tie.close (tie.spec returns sub-result returns-2)
+fits-spec = tie.close (tie.spec returns sub-if2 returns-2 returns-3)

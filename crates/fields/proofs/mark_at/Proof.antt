@@ -2,52 +2,53 @@
 use mathlib.Core.Path.{sym, _∙_}
 use native.Mathlib.Omega.{arith}
 use denote.Ref.{now}
+use Rattle.fields.proofs.Bytes.{field-there}
 use Rattle.fields.proofs.Mark.{mark-held, mark-refused, mark-short}
 use borrow.Author.Needs.{needs}
 use Rattle.fields.proofs.mark_at.Statement.{statement}
 use Rattle.fields.proofs.mark_at.Tie as tie
 
-enum-known-at : tie.Need-enum-known-at
-enum-known-at c = search needs
+past-requires : tie.Need-past-requires
+past-requires c κs = search needs
 
-fits-requires : tie.Need-fits-requires
-fits-requires c κs = search needs
+enum-known-end : tie.Need-enum-known-end
+enum-known-end c = search needs
+
+sub-same-at : tie.Need-sub-same-at
+sub-same-at c = let h = field-there 3 (now (c .before .before .before .before .before .args .s)) (c .before .before .before .before .before .args .at) (c .before .end .given .0 .0) (sym (c .before .end .given .1) ∙ c .before .before .before .past .ensures) in omega arith
 
 slice-aggregate-same-at : tie.Need-slice-aggregate-same-at
 slice-aggregate-same-at c = search needs
 
 same-at-requires : tie.Need-same-at-requires
-same-at-requires c κs = let h = c .before .before .fits2 .ensures .yes (c .before .if1 .taken) in omega arith
-
-add-t12 : tie.Need-add-t12
-add-t12 c = let h = c .before .before .before .before .fits2 .ensures .yes (c .before .before .before .if1 .taken) in omega arith
+same-at-requires c κs = let h = field-there 3 (now (c .before .before .before .before .before .before .args .s)) (c .before .before .before .before .before .before .args .at) (c .before .before .end .given .0 .0) (sym (c .before .before .end .given .1) ∙ c .before .before .before .before .past .ensures) in omega arith
 
 returns : tie.Need-returns
-returns c = simp (c .before .before .before .before .before .before .at .given .1, mark-held (now (c .before .before .before .before .before .before .before .before .before .args .s)) (c .before .before .before .before .before .before .at .given .0 .0) (c .before .before .before .before .fits2 .ensures .yes (c .before .before .before .if1 .taken)) (sym (c .before .same-at .ensures) ∙ c .if2 .taken))
+returns c = mark-held (now (c .before .before .before .before .before .before .before .before .args .s)) (c .before .before .before .before .before .before .before .before .args .at) (c .before .before .before .before .end .given .0 .0) (sym (c .before .before .before .before .end .given .1) ∙ c .before .before .before .before .before .before .past .ensures) (sym (c .before .same-at .ensures) ∙ c .if1 .taken)
+
+refuse-requires : tie.Need-refuse-requires
+refuse-requires c κs = search needs
 
 returns-2 : tie.Need-returns-2
-returns-2 c = simp (c .before .before .before .before .before .before .at .given .1, mark-refused (now (c .before .before .before .before .before .before .before .before .before .args .s)) (c .before .before .before .before .before .before .at .given .0 .0) (c .before .before .before .before .fits2 .ensures .yes (c .before .before .before .if1 .taken)) (sym (c .before .same-at .ensures) ∙ c .if2 .left))
+returns-2 c = rw (c .refuse .ensures) (mark-refused (now (c .before .before .before .before .before .before .before .before .before .args .s)) (c .before .before .before .before .before .before .before .before .before .args .at) (c .before .before .before .before .before .end .given .0 .0) (sym (c .before .before .before .before .before .end .given .1) ∙ c .before .before .before .before .before .before .before .past .ensures) (sym (c .before .before .same-at .ensures) ∙ c .before .if1 .left))
 
-enum-known-at-2 : tie.Need-enum-known-at-2
-enum-known-at-2 c = search needs
+enum-told : tie.Need-enum-told
+enum-told c = search needs
 
 returns-3 : tie.Need-returns-3
-returns-3 c = simp (c .before .before .before .at .given .1, mark-short (now (c .before .before .before .before .before .before .args .s)) (c .before .before .before .at .given .0 .0) (c .before .fits2 .ensures .no (c .if1 .left)))
-
-returns-4 : tie.Need-returns-4
-returns-4 c = simp (c .before .at2 .given .1)
+returns-3 c = mark-short (now (c .before .before .before .before .args .s)) (c .before .before .before .before .args .at) (c .before .before .past .result) (c .enum-told .given .0 .0) (c .enum-told .given .0 .1 .0) (c .enum-told .given .1) (c .before .before .past .ensures)
 
 pub mark-at-spec : {M : Type 1} → statement M
 mark-at-spec =
     tie.close
     (tie.spec
-    enum-known-at
-    fits-requires
+    past-requires
+    enum-known-end
+    sub-same-at
     slice-aggregate-same-at
     same-at-requires
-    add-t12
     returns
+    refuse-requires
     returns-2
-    enum-known-at-2
-    returns-3
-    returns-4)
+    enum-told
+    returns-3)

@@ -18,7 +18,7 @@ constant-at-requires : tie.Need-constant-at-requires
 constant-at-requires c κs = search needs
 
 returns : tie.Need-returns
-returns c = rw (toZ-ofZ {w = w32} {z = c .before .constant-at .result .value} (search needs)) (atom-parts (now (c .before .before .before .before .before .args .s)) (c .before .before .before .before .before .args .v) (c .before .before .before .before .before .args .at) (c .before .before .before .within-at .result .at) (c .before .before .second-at .result .at) (c .before .constant-at .result .at) (c .before .before .before .within-at .result .value) (c .before .before .second-at .result .value) (c .before .constant-at .result .value) (told-view (c .before .before .before .within-at .ensures)) (told-view (c .before .before .second-at .ensures)) (told-view (c .before .constant-at .ensures)))
+returns c = rw (toZ-ofZ {w = w32} {z = c .before .constant-at .result .value} (search needs)) (atom-parts (now (c .before .before .before .before .before .args .s)) (c .before .before .before .before .before .args .v) (c .before .before .before .before .before .args .at) (c .before .before .before .within-at .result .at) (c .before .before .second-at .result .at) (c .before .constant-at .result .at) (c .before .before .before .within-at .result .value) (c .before .before .second-at .result .value) (c .before .constant-at .result .value) (told-view (c .before .before .before .within-at .ensures)) (told-view (c .before .before .second-at .ensures)) (told-view (c .before .constant-at .ensures)) .so)
 
 pub atom-at-spec : {M : Type 1} → statement M
 atom-at-spec =

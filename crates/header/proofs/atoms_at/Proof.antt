@@ -3,19 +3,16 @@ use borrow.Author.Needs.{needs}
 use mathlib.Core.Path.{_≡_}
 use Prim.Native.Nat.{_≤_, _-_}
 use native.Mathlib.Omega.{arith}
-use lib.ListN.{take}
-use denote.Ref.{now}
 use Rattle.basis.specs.Atoms.{noAtom}
 use Rattle.basis.specs.Limits.{mostAtoms}
-use Rattle.runfile.specs.Readers.{times}
 use Rattle.runfile.specs.File.{atom}
-use Rattle.fields.specs.Views.{Filled, after, viewed}
-use Rattle.fields.proofs.Laws.{times-none, fill-more, filled-none, filled-long, filled-more}
+use Rattle.fields.specs.Views.{Fills}
+use Rattle.fields.proofs.Laws.{fills-more, fills-none}
 use Rattle.header.proofs.atoms_at.Statement.{statement}
 use Rattle.header.proofs.atoms_at.Tie as tie
 
 abbrev Inv-loop : tie.InvT-loop
-Inv-loop s n v count atoms₀ end₀ j₀ atoms end j = (j ≤ count) × (viewed end (take j atoms) ≡ after end₀ (times j (atom v) s)) × Filled mostAtoms noAtom atoms j
+Inv-loop s n v count atoms₀ end₀ j₀ atoms end j = (j ≤ count) × Fills mostAtoms noAtom s (atom v) j end₀ end atoms
 
 abbrev μ-loop : tie.MeasureT-loop
 μ-loop s n v count atoms₀ end₀ j₀ atoms end j = count - j
@@ -24,7 +21,7 @@ no-atom-requires : tie.Need-no-atom-requires Inv-loop μ-loop
 no-atom-requires c κs = search needs
 
 loop-holds : tie.Need-loop-holds Inv-loop μ-loop
-loop-holds c = (omega arith, times-none (now (c .before .before .args .s)) (atom (c .before .before .args .v)) (c .before .before .args .at), rw (c .no-atom .ensures) (filled-none mostAtoms noAtom))
+loop-holds c = (omega arith, rw (c .no-atom .ensures) (fills-none (c .before .before .args .at)))
 
 atom-at-requires : tie.Need-atom-at-requires Inv-loop μ-loop
 atom-at-requires c κs = search needs
@@ -42,11 +39,10 @@ loop-less : tie.Need-loop-less Inv-loop μ-loop
 loop-less c = search needs
 
 loop-again : tie.Need-loop-again Inv-loop μ-loop
-loop-again c = let l = filled-long mostAtoms noAtom (c .before .before .before .loop .atoms) (c .before .before .before .loop .j) (c .before .before .before .loop .inv .2) in
-    (omega arith, fill-more (now (c .before .before .before .before .before .before .args .s)) (atom (c .before .before .before .before .before .before .args .v)) (c .before .before .before .before .before .before .args .at) (c .before .before .before .loop .end) (c .before .atom-at .result .at) (c .before .before .before .loop .j) (c .before .before .before .loop .atoms) (c .before .atom-at .result .atom) (omega arith) (c .before .before .before .loop .inv .1) (c .before .atom-at .ensures), filled-more mostAtoms noAtom (c .before .before .before .loop .atoms) (c .before .before .before .loop .j) (c .before .atom-at .result .atom) (omega arith) (c .before .before .before .loop .inv .2))
+loop-again c = (omega arith, fills-more (c .before .atom-at .result .at) (c .before .atom-at .result .atom) (c .before .before .before .loop .inv .1) (omega arith) (c .before .atom-at .ensures))
 
 returns : tie.Need-returns Inv-loop μ-loop
-returns c = let e : c .before .loop .j ≡ c .before .before .before .before .args .n = omega arith in (rw e at (c .before .loop .inv .1), rw e at (c .before .loop .inv .2))
+returns c = let e : c .before .loop .j ≡ c .before .before .before .before .args .n = omega arith in rw e at (c .before .loop .inv .1)
 
 pub atoms-at-spec : {M : Type 1} → statement M
 atoms-at-spec =

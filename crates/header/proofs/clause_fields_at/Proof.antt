@@ -24,8 +24,8 @@ literals-at-requires c κs = (c .before .before .count-at3 .ensures .1, c .befor
 
 returns : tie.Need-returns
 returns c = (
-  clause-parts (now (c .before .before .before .before .before .before .before .before .args .s)) (arities (c .before .before .before .before .before .before .before .before .args .ps)) (c .before .before .before .before .before .before .before .before .args .at) (c .before .before .before .before .before .before .count-at .result .at) (c .before .before .before .before .before .count-at2 .result .at) (c .before .before .before .before .count-at3 .result .at) (c .before .before .before .atoms-at .result .at) (c .before .literals-at .result .at) (c .before .before .before .before .before .before .count-at .result .value) (c .before .before .before .before .before .count-at2 .result .value) (c .before .before .before .before .count-at3 .result .value) _ _ (told-view (c .before .before .before .before .before .before .count-at .ensures .0)) (told-view (c .before .before .before .before .before .count-at2 .ensures .0)) (told-view (c .before .before .before .before .count-at3 .ensures .0)) (c .before .before .before .atoms-at .ensures .0) (c .before .literals-at .ensures .0),
-  packed-is _ (c .before .before .before .before .before .count-at2 .ensures .1) (c .before .before .before .before .count-at3 .ensures .1) (c .before .before .before .atoms-at .ensures .1) (c .before .literals-at .ensures .1),
+  clause-parts (now (c .before .before .before .before .before .before .before .before .args .s)) (arities (c .before .before .before .before .before .before .before .before .args .ps)) (c .before .before .before .before .before .before .before .before .args .at) (c .before .before .before .before .before .before .count-at .result .at) (c .before .before .before .before .before .count-at2 .result .at) (c .before .before .before .before .count-at3 .result .at) (c .before .before .before .atoms-at .result .at) (c .before .literals-at .result .at) (c .before .before .before .before .before .before .count-at .result .value) (c .before .before .before .before .before .count-at2 .result .value) (c .before .before .before .before .count-at3 .result .value) _ _ (told-view (c .before .before .before .before .before .before .count-at .ensures .0)) (told-view (c .before .before .before .before .before .count-at2 .ensures .0)) (told-view (c .before .before .before .before .count-at3 .ensures .0)) (c .before .before .before .atoms-at .ensures .reads) (c .before .literals-at .ensures .reads) .so,
+  packed-is _ (c .before .before .before .before .before .count-at2 .ensures .1) (c .before .before .before .before .count-at3 .ensures .1) (c .before .before .before .atoms-at .ensures .filled) (c .before .literals-at .ensures .filled),
 )
 
 pub clause-fields-at-spec : {M : Type 1} → statement M

@@ -27,7 +27,7 @@ argument-at-requires-3 : tie.Need-argument-at-requires-3
 argument-at-requires-3 c κs = search needs
 
 returns : tie.Need-returns
-returns c = literal-parts (now (c .before .before .before .before .before .before .before .before .before .args .s)) (arities (c .before .before .before .before .before .before .before .before .before .args .ps)) (c .before .before .before .before .before .before .before .before .before .args .v) (c .before .before .before .before .before .before .before .before .before .args .ps .count) (c .before .before .before .before .arity-of .result) (c .before .before .before .before .before .before .before .before .before .args .at) (c .before .before .before .before .before .before .before .within-at .result .at) (c .before .before .before .before .before .before .within-at2 .result .at) (c .before .before .before .argument-at .result .at) (c .before .before .argument-at2 .result .at) (c .before .argument-at3 .result .at) (c .before .before .before .before .before .before .before .within-at .result .value) (c .before .before .before .before .before .before .within-at2 .result .value) (c .before .before .before .argument-at .result .value) (c .before .before .argument-at2 .result .value) (c .before .argument-at3 .result .value) (sym (arities-count (c .before .before .before .before .before .before .before .before .before .args .ps) (c .before .before .before .before .before .before .before .before .before .pre))) (c .before .before .before .before .arity-of .ensures ∙ arity-held (c .before .before .before .before .before .before .before .before .before .args .ps) (c .before .before .before .before .before .before .within-at2 .result .value) (c .before .before .before .before .before .before .before .before .before .pre)) (told-view (c .before .before .before .before .before .before .before .within-at .ensures)) (told-view (c .before .before .before .before .before .before .within-at2 .ensures)) (c .before .before .before .argument-at .ensures) (c .before .before .argument-at2 .ensures) (c .before .argument-at3 .ensures)
+returns c = literal-parts (now (c .before .before .before .before .before .before .before .before .before .args .s)) (arities (c .before .before .before .before .before .before .before .before .before .args .ps)) (c .before .before .before .before .before .before .before .before .before .args .v) (c .before .before .before .before .before .before .before .before .before .args .ps .count) (c .before .before .before .before .arity-of .result) (c .before .before .before .before .before .before .before .before .before .args .at) (c .before .before .before .before .before .before .before .within-at .result .at) (c .before .before .before .before .before .before .within-at2 .result .at) (c .before .before .before .argument-at .result .at) (c .before .before .argument-at2 .result .at) (c .before .argument-at3 .result .at) (c .before .before .before .before .before .before .before .within-at .result .value) (c .before .before .before .before .before .before .within-at2 .result .value) (c .before .before .before .argument-at .result .value) (c .before .before .argument-at2 .result .value) (c .before .argument-at3 .result .value) (sym (arities-count (c .before .before .before .before .before .before .before .before .before .args .ps) (c .before .before .before .before .before .before .before .before .before .pre))) (c .before .before .before .before .arity-of .ensures ∙ arity-held (c .before .before .before .before .before .before .before .before .before .args .ps) (c .before .before .before .before .before .before .within-at2 .result .value) (c .before .before .before .before .before .before .before .before .before .pre)) (told-view (c .before .before .before .before .before .before .before .within-at .ensures)) (told-view (c .before .before .before .before .before .before .within-at2 .ensures)) (c .before .before .before .argument-at .ensures) (c .before .before .argument-at2 .ensures) (c .before .argument-at3 .ensures) .so
 
 pub literal-at-spec : {M : Type 1} → statement M
 literal-at-spec =

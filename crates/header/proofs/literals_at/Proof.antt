@@ -3,20 +3,17 @@ use borrow.Author.Needs.{needs}
 use mathlib.Core.Path.{_≡_}
 use Prim.Native.Nat.{_≤_, _-_}
 use native.Mathlib.Omega.{arith}
-use lib.ListN.{take}
-use denote.Ref.{now}
 use Rattle.basis.specs.Limits.{mostLiterals}
 use Rattle.calculus.specs.Clauses.{noLiteral}
-use Rattle.runfile.specs.Readers.{times}
 use Rattle.runfile.specs.File.{literal}
-use Rattle.fields.specs.Views.{Filled, after, viewed}
-use Rattle.fields.proofs.Laws.{times-none, fill-more, filled-none, filled-long, filled-more}
+use Rattle.fields.specs.Views.{Fills}
+use Rattle.fields.proofs.Laws.{fills-more, fills-none}
 use Rattle.header.specs.Records.{arities}
 use Rattle.header.proofs.literals_at.Statement.{statement}
 use Rattle.header.proofs.literals_at.Tie as tie
 
 abbrev Inv-loop : tie.InvT-loop
-Inv-loop s n ps v count literals₀ end₀ j₀ literals end j = (j ≤ count) × (viewed end (take j literals) ≡ after end₀ (times j (literal (arities ps) v) s)) × Filled mostLiterals noLiteral literals j
+Inv-loop s n ps v count literals₀ end₀ j₀ literals end j = (j ≤ count) × Fills mostLiterals noLiteral s (literal (arities ps) v) j end₀ end literals
 
 abbrev μ-loop : tie.MeasureT-loop
 μ-loop s n ps v count literals₀ end₀ j₀ literals end j = count - j
@@ -25,7 +22,7 @@ no-literal-requires : tie.Need-no-literal-requires Inv-loop μ-loop
 no-literal-requires c κs = search needs
 
 loop-holds : tie.Need-loop-holds Inv-loop μ-loop
-loop-holds c = (omega arith, times-none (now (c .before .before .args .s)) (literal (arities (c .before .before .args .ps)) (c .before .before .args .v)) (c .before .before .args .at), rw (c .no-literal .ensures) (filled-none mostLiterals noLiteral))
+loop-holds c = (omega arith, rw (c .no-literal .ensures) (fills-none (c .before .before .args .at)))
 
 literal-at-requires : tie.Need-literal-at-requires Inv-loop μ-loop
 literal-at-requires c κs = c .before .before .before .before .pre .1
@@ -43,12 +40,12 @@ loop-less : tie.Need-loop-less Inv-loop μ-loop
 loop-less c = search needs
 
 loop-again : tie.Need-loop-again Inv-loop μ-loop
-loop-again c = let l = filled-long mostLiterals noLiteral (c .before .before .before .loop .literals) (c .before .before .before .loop .j) (c .before .before .before .loop .inv .2) in
+loop-again c =
     let i = c .before .before .before .before .before .before .pre .0 in
-    (omega arith, fill-more (now (c .before .before .before .before .before .before .args .s)) (literal (arities (c .before .before .before .before .before .before .args .ps)) (c .before .before .before .before .before .before .args .v)) (c .before .before .before .before .before .before .args .at) (c .before .before .before .loop .end) (c .before .literal-at .result .at) (c .before .before .before .loop .j) (c .before .before .before .loop .literals) (c .before .literal-at .result .literal) (omega arith) (c .before .before .before .loop .inv .1) (c .before .literal-at .ensures), filled-more mostLiterals noLiteral (c .before .before .before .loop .literals) (c .before .before .before .loop .j) (c .before .literal-at .result .literal) (omega arith) (c .before .before .before .loop .inv .2))
+    (omega arith, fills-more (c .before .literal-at .result .at) (c .before .literal-at .result .literal) (c .before .before .before .loop .inv .1) (omega arith) (c .before .literal-at .ensures))
 
 returns : tie.Need-returns Inv-loop μ-loop
-returns c = let e : c .before .loop .j ≡ c .before .before .before .before .args .n = omega arith in (rw e at (c .before .loop .inv .1), rw e at (c .before .loop .inv .2))
+returns c = let e : c .before .loop .j ≡ c .before .before .before .before .args .n = omega arith in rw e at (c .before .loop .inv .1)
 
 pub literals-at-spec : {M : Type 1} → statement M
 literals-at-spec =

@@ -1,6 +1,7 @@
 -- `steps::arguments_at` meets its contract.
 use denote.Ref.{now}
-use Rattle.steps.proofs.Parts.{skip-parts, other-rules}
+use Rattle.fields.proofs.Laws.{told-view}
+use Rattle.steps.proofs.Parts.{backtrack-parts, conflict-parts, grow-parts, other-rules, resolve-parts, skip-parts}
 use borrow.Author.Needs.{needs}
 use Rattle.steps.proofs.arguments_at.Statement.{statement}
 use Rattle.steps.proofs.arguments_at.Tie as tie
@@ -11,23 +12,35 @@ propagate-at-requires c κs = search needs
 decide-at-requires : tie.Need-decide-at-requires
 decide-at-requires c κs = search needs
 
-conflict-at-requires : tie.Need-conflict-at-requires
-conflict-at-requires c κs = search needs
+byte-at-requires : tie.Need-byte-at-requires
+byte-at-requires c κs = search needs
 
-resolve-at-requires : tie.Need-resolve-at-requires
-resolve-at-requires c κs = search needs
+instanced-at-requires : tie.Need-instanced-at-requires
+instanced-at-requires c κs = search needs
+
+byte-at-requires-2 : tie.Need-byte-at-requires-2
+byte-at-requires-2 c κs = search needs
+
+bare-requires : tie.Need-bare-requires
+bare-requires c κs = search needs
 
 factorize-at-requires : tie.Need-factorize-at-requires
 factorize-at-requires c κs = search needs
 
-skip-at-requires : tie.Need-skip-at-requires
-skip-at-requires c κs = search needs
+bare-requires-2 : tie.Need-bare-requires-2
+bare-requires-2 c κs = search needs
 
-backtrack-at-requires : tie.Need-backtrack-at-requires
-backtrack-at-requires c κs = search needs
+byte-at-requires-3 : tie.Need-byte-at-requires-3
+byte-at-requires-3 c κs = search needs
 
-grow-at-requires : tie.Need-grow-at-requires
-grow-at-requires c κs = search needs
+bare-requires-3 : tie.Need-bare-requires-3
+bare-requires-3 c κs = search needs
+
+byte-at-requires-4 : tie.Need-byte-at-requires-4
+byte-at-requires-4 c κs = search needs
+
+bare-requires-4 : tie.Need-bare-requires-4
+bare-requires-4 c κs = search needs
 
 returns : tie.Need-returns
 returns c = rw (c .before .match .keys1) (c .propagate-at .ensures)
@@ -36,22 +49,22 @@ returns-2 : tie.Need-returns-2
 returns-2 c = rw (c .before .match .keys2) (c .decide-at .ensures)
 
 returns-3 : tie.Need-returns-3
-returns-3 c = rw (c .before .match .keys3) (c .conflict-at .ensures)
+returns-3 c = rw (c .before .before .match .keys3, c .instanced-at .ensures .is) (conflict-parts (now (c .before .before .before .before .args .s)) (c .before .before .before .before .args .at) (c .before .byte-at .result .at) (c .instanced-at .result .at) (c .before .byte-at .result .value) _ (told-view (c .before .byte-at .ensures)) (c .instanced-at .ensures .reads))
 
 returns-4 : tie.Need-returns-4
-returns-4 c = rw (c .before .match .keys4) (c .resolve-at .ensures)
+returns-4 c = rw (c .before .before .match .keys4, c .bare .ensures) (resolve-parts (now (c .before .before .before .before .args .s)) (c .before .before .before .before .args .at) (c .before .byte-at2 .result .at) (c .before .byte-at2 .result .value) (told-view (c .before .byte-at2 .ensures)))
 
 returns-5 : tie.Need-returns-5
 returns-5 c = rw (c .before .match .keys5) (c .factorize-at .ensures)
 
 returns-6 : tie.Need-returns-6
-returns-6 c = rw (c .before .match .keys6, c .skip-at .ensures) (skip-parts (now (c .before .before .before .args .s)) (c .before .before .before .args .at))
+returns-6 c = rw (c .before .match .keys6, c .bare2 .ensures) (skip-parts (now (c .before .before .before .args .s)) (c .before .before .before .args .at))
 
 returns-7 : tie.Need-returns-7
-returns-7 c = rw (c .before .match .keys7) (c .backtrack-at .ensures)
+returns-7 c = rw (c .before .before .match .keys7, c .bare3 .ensures) (backtrack-parts (now (c .before .before .before .before .args .s)) (c .before .before .before .before .args .at) (c .before .byte-at3 .result .at) (c .before .byte-at3 .result .value) (told-view (c .before .byte-at3 .ensures)))
 
 returns-8 : tie.Need-returns-8
-returns-8 c = rw (other-rules (now (c .before .before .before .args .s)) (c .before .before .before .args .rule) (c .before .match .rest .0 .0 .0 .0 .0 .0 .1) (c .before .match .rest .0 .0 .0 .0 .0 .1) (c .before .match .rest .0 .0 .0 .0 .1) (c .before .match .rest .0 .0 .0 .1) (c .before .match .rest .0 .0 .1) (c .before .match .rest .0 .1) (c .before .match .rest .1)) (c .grow-at .ensures)
+returns-8 c = rw (other-rules (now (c .before .before .before .before .args .s)) (c .before .before .before .before .args .rule) (c .before .before .match .rest .0 .0 .0 .0 .0 .0 .1) (c .before .before .match .rest .0 .0 .0 .0 .0 .1) (c .before .before .match .rest .0 .0 .0 .0 .1) (c .before .before .match .rest .0 .0 .0 .1) (c .before .before .match .rest .0 .0 .1) (c .before .before .match .rest .0 .1) (c .before .before .match .rest .1), c .bare4 .ensures) (grow-parts (now (c .before .before .before .before .args .s)) (c .before .before .before .before .args .at) (c .before .byte-at4 .result .at) (c .before .byte-at4 .result .value) (told-view (c .before .byte-at4 .ensures)))
 
 pub arguments-at-spec : {M : Type 1} → statement M
 arguments-at-spec =
@@ -59,12 +72,16 @@ arguments-at-spec =
     (tie.spec
     propagate-at-requires
     decide-at-requires
-    conflict-at-requires
-    resolve-at-requires
+    byte-at-requires
+    instanced-at-requires
+    byte-at-requires-2
+    bare-requires
     factorize-at-requires
-    skip-at-requires
-    backtrack-at-requires
-    grow-at-requires
+    bare-requires-2
+    byte-at-requires-3
+    bare-requires-3
+    byte-at-requires-4
+    bare-requires-4
     returns
     returns-2
     returns-3

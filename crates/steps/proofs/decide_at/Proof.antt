@@ -15,13 +15,13 @@ byte-at-requires-2 c κs = search needs
 within-at-requires : tie.Need-within-at-requires
 within-at-requires c κs = search needs
 
-instance-at-requires : tie.Need-instance-at-requires
-instance-at-requires c κs = search needs
+instanced-at-requires : tie.Need-instanced-at-requires
+instanced-at-requires c κs = search needs
 
 returns : tie.Need-returns
-returns c = decide-parts (now (c .before .before .before .before .before .before .args .s)) (c .before .instance-at .result .count) (c .before .instance-at .result .instance) (c .before .instance-at .ensures .1) (c .before .instance-at .ensures .2) (c .before .before .before .before .before .before .args .at) (c .before .before .before .before .byte-at .result .at) (c .before .before .before .byte-at2 .result .at) (c .before .before .within-at .result .at) (c .before .instance-at .result .at) (c .before .before .before .before .byte-at .result .value) (c .before .before .before .byte-at2 .result .value) (c .before .before .within-at .result .value) (told-view (c .before .before .before .before .byte-at .ensures)) (told-view (c .before .before .before .byte-at2 .ensures)) (told-view (c .before .before .within-at .ensures)) (c .before .instance-at .ensures .0)
+returns c = rw (c .instanced-at .ensures .is) (decide-parts (now (c .before .before .before .before .before .args .s)) (c .before .before .before .before .before .args .at) (c .before .before .before .byte-at .result .at) (c .before .before .byte-at2 .result .at) (c .before .within-at .result .at) (c .instanced-at .result .at) (c .before .before .before .byte-at .result .value) (c .before .before .byte-at2 .result .value) (c .before .within-at .result .value) _ (told-view (c .before .before .before .byte-at .ensures)) (told-view (c .before .before .byte-at2 .ensures)) (told-view (c .before .within-at .ensures)) (c .instanced-at .ensures .reads))
 
 pub decide-at-spec : {M : Type 1} → statement M
 decide-at-spec =
     tie.close
-    (tie.spec byte-at-requires byte-at-requires-2 within-at-requires instance-at-requires returns)
+    (tie.spec byte-at-requires byte-at-requires-2 within-at-requires instanced-at-requires returns)

@@ -1,6 +1,6 @@
 -- `steps::end_at` meets its contract.
 use denote.Ref.{now}
-use Rattle.steps.proofs.Parts.{end-here, end-before}
+use Rattle.steps.proofs.Parts.{end-before, end-here}
 use borrow.Author.Needs.{needs}
 use Rattle.steps.proofs.end_at.Statement.{statement}
 use Rattle.steps.proofs.end_at.Tie as tie

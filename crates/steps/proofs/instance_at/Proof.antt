@@ -17,7 +17,7 @@ constants-at-requires c κs = c .count-at .ensures .1
 returns : tie.Need-returns
 returns c = let e = c .constants-at .ensures .0 in
     let k = c .before .count-at .ensures .1 in
-    (rw e (instance-parts (now (c .before .before .before .args .s)) (c .before .before .before .args .at) (c .before .count-at .result .at) (c .constants-at .result .at) (c .before .count-at .result .value) (take (c .before .count-at .result .value) (c .constants-at .result .instance)) (told-view (c .before .count-at .ensures .0)) (c .constants-at .ensures .1)), omega arith, rw e (c .constants-at .ensures .2))
+    (rw e (instance-parts (now (c .before .before .before .args .s)) (c .before .before .before .args .at) (c .before .count-at .result .at) (c .constants-at .result .at) (c .before .count-at .result .value) (take (c .before .count-at .result .value) (c .constants-at .result .instance)) (told-view (c .before .count-at .ensures .0)) (c .constants-at .ensures .1 .reads)), omega arith, rw e (c .constants-at .ensures .1 .filled))
 
 pub instance-at-spec : {M : Type 1} → statement M
 instance-at-spec = tie.close (tie.spec count-at-requires constants-at-requires returns)

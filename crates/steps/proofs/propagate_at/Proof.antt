@@ -12,12 +12,12 @@ byte-at-requires c κs = search needs
 byte-at-requires-2 : tie.Need-byte-at-requires-2
 byte-at-requires-2 c κs = search needs
 
-instance-at-requires : tie.Need-instance-at-requires
-instance-at-requires c κs = search needs
+instanced-at-requires : tie.Need-instanced-at-requires
+instanced-at-requires c κs = search needs
 
 returns : tie.Need-returns
-returns c = propagate-parts (now (c .before .before .before .before .before .args .s)) (c .before .instance-at .result .count) (c .before .instance-at .result .instance) (c .before .instance-at .ensures .1) (c .before .instance-at .ensures .2) (c .before .before .before .before .before .args .at) (c .before .before .before .byte-at .result .at) (c .before .before .byte-at2 .result .at) (c .before .instance-at .result .at) (c .before .before .before .byte-at .result .value) (c .before .before .byte-at2 .result .value) (told-view (c .before .before .before .byte-at .ensures)) (told-view (c .before .before .byte-at2 .ensures)) (c .before .instance-at .ensures .0)
+returns c = rw (c .instanced-at .ensures .is) (propagate-parts (now (c .before .before .before .before .args .s)) (c .before .before .before .before .args .at) (c .before .before .byte-at .result .at) (c .before .byte-at2 .result .at) (c .instanced-at .result .at) (c .before .before .byte-at .result .value) (c .before .byte-at2 .result .value) _ (told-view (c .before .before .byte-at .ensures)) (told-view (c .before .byte-at2 .ensures)) (c .instanced-at .ensures .reads))
 
 pub propagate-at-spec : {M : Type 1} → statement M
 propagate-at-spec =
-    tie.close (tie.spec byte-at-requires byte-at-requires-2 instance-at-requires returns)
+    tie.close (tie.spec byte-at-requires byte-at-requires-2 instanced-at-requires returns)
