@@ -61,15 +61,16 @@ pub word-one : (s : List ℕ) (i : ℕ) → i < length s → getD s i 0 ≡ litt
 word-one s i h = omega (arith, word-more s i 0 h)
 
 -- A turn of the loop
-pub word-turn : (s : List ℕ) (i n j v : ℕ) → 1 ≤ j → j ≤ n → i + n ≤ length s → v ≡ littleEndian (take (n - j) (drop (i + j) s))
-    → getD s (i + (j - 1)) 0 + 256 * v ≡ littleEndian (take (n - (j - 1)) (drop (i + (j - 1)) s))
-word-turn s i n j v h k l e =
-    let a : n - (j - 1) ≡ suc (n - j) = omega arith in
-    let b : suc (i + (j - 1)) ≡ i + j = omega arith in
-    rw (a, e) (sym (rw b at (word-more s (i + (j - 1)) (n - j) (omega arith))))
+pub word-turn : (s : List ℕ) (i n j v : ℕ) → j < n → i + n ≤ length s → v ≡ littleEndian (take j (drop (i + (n - j)) s))
+    → getD s (i + (n - 1 - j)) 0 + 256 * v ≡ littleEndian (take (j + 1) (drop (i + (n - (j + 1))) s))
+word-turn s i n j v h l e =
+    let a : n - (j + 1) ≡ n - 1 - j = omega arith in
+    let b : suc (i + (n - 1 - j)) ≡ i + (n - j) = omega arith in
+    let c : j + 1 ≡ suc j = omega arith in
+    rw (a, c, e) (sym (rw b at (word-more s (i + (n - 1 - j)) j (omega arith))))
 
-pub word-small : (n j v b : ℕ) → 1 ≤ j → j ≤ n → v < 256 ^ (n - j) → b < 256 → b + 256 * v < 256 ^ (n - (j - 1))
-word-small n j v b h k l q = let a : n - (j - 1) ≡ suc (n - j) = omega arith in rw a (omega (arith, pow-suc 256 (n - j)))
+pub word-small : (j v b : ℕ) → v < 256 ^ j → b < 256 → b + 256 * v < 256 ^ (j + 1)
+word-small j v b l q = let a : j + 1 ≡ suc j = omega arith in rw a (omega (arith, pow-suc 256 j))
 
 -- Beside three bytes there is room for a fourth.
 pub word-fits : (m v : ℕ) → m ≤ 3 → v < 256 ^ m → v < 16777216

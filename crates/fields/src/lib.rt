@@ -94,10 +94,11 @@ fn word(s: &[u8], i: usize, n: usize) -> u32
     ensures { λ r. ⌜ r ≡ littleEndian (take n (drop i (now (s .entry)))) ⌝ }
 {
     let mut value: u32 = 0;
-    let mut j = n;
-    while 0 < j {
-        j -= 1;
-        value = s[i + j] as u32 + 256 * value;
+    let mut j: usize = 0;
+    while j < n {
+        let k = n - 1 - j;
+        value = s[i + k] as u32 + 256 * value;
+        j += 1;
     }
     value
 }
