@@ -88,6 +88,12 @@ pub fn byte_at(s: &[u8], at: Cursor) -> Byte
     Byte { value: 0, at: end }
 }
 
+fn widened(x: u8) -> u32
+    ensures { λ r. ⌜ (r ≡ x) × (r < 256) ⌝ }
+{
+    x as u32
+}
+
 // The number that n bytes at i make, the lowest first
 fn word(s: &[u8], i: usize, n: usize) -> u32
     requires { ⌜ (i + n ≤ length (now s)) × (n ≤ 4) ⌝ }
@@ -97,7 +103,7 @@ fn word(s: &[u8], i: usize, n: usize) -> u32
     let mut j: usize = 0;
     while j < n {
         let k = n - 1 - j;
-        value = s[i + k] as u32 + 256 * value;
+        value = widened(s[i + k]) + 256 * value;
         j += 1;
     }
     value

@@ -1,7 +1,7 @@
 -- `fields::word` meets its contract: after j turns the value is that of the last j bytes.
 use borrow.Author.Needs.{needs}
-use mathlib.Core.Path.{_≡_, refl}
-use Prim.Native.Nat.{_+_, _-_, _<_, _^_, _≤_}
+use mathlib.Core.Path.{_≡_, _∙_, ap, refl}
+use Prim.Native.Nat.{ℕ, _+_, _-_, _*_, _<_, _^_, _≤_}
 use native.Mathlib.Omega.{arith}
 use lib.ListN.{drop, take}
 use denote.Ref.{now}
@@ -25,20 +25,20 @@ sub-k c = search needs
 sub-k-2 : tie.Need-sub-k-2 Inv-loop μ-loop
 sub-k-2 c = search needs
 
-add-value : tie.Need-add-value Inv-loop μ-loop
-add-value c = search needs
+add-widened : tie.Need-add-widened Inv-loop μ-loop
+add-widened c = search needs
 
-shared-slice-read-value : tie.Need-shared-slice-read-value Inv-loop μ-loop
-shared-slice-read-value c = search needs
+shared-slice-read-widened : tie.Need-shared-slice-read-widened Inv-loop μ-loop
+shared-slice-read-widened c = search needs
 
-cast-value : tie.Need-cast-value Inv-loop μ-loop
-cast-value c = omega (arith, c .shared-slice-known .given (c .before .before .before .args .i + (c .before .before .before .args .n - 1 - c .before .before .loop .j)))
+widened-requires : tie.Need-widened-requires Inv-loop μ-loop
+widened-requires c κs = search needs
 
 mul-value : tie.Need-mul-value Inv-loop μ-loop
-mul-value c = let h = word-fits (c .before .before .loop .j) (c .before .before .loop .value) (omega arith) (c .before .before .loop .inv .2) in omega arith
+mul-value c = let h = word-fits (c .before .before .before .loop .j) (c .before .before .before .loop .value) (omega arith) (c .before .before .before .loop .inv .2) in omega arith
 
-add-value-2 : tie.Need-add-value-2 Inv-loop μ-loop
-add-value-2 c = let h = word-fits (c .before .before .loop .j) (c .before .before .loop .value) (omega arith) (c .before .before .loop .inv .2) in omega (arith, c .shared-slice-known .given (c .before .before .before .args .i + (c .before .before .before .args .n - 1 - c .before .before .loop .j)))
+add-value : tie.Need-add-value Inv-loop μ-loop
+add-value c = let h = word-fits (c .before .before .before .loop .j) (c .before .before .before .loop .value) (omega arith) (c .before .before .before .loop .inv .2) in omega arith
 
 add-j : tie.Need-add-j Inv-loop μ-loop
 add-j c = search needs
@@ -47,11 +47,15 @@ loop-less : tie.Need-loop-less Inv-loop μ-loop
 loop-less c = search needs
 
 loop-again : tie.Need-loop-again Inv-loop μ-loop
-loop-again c = (omega arith, word-turn (now (c .before .before .before .args .s)) (c .before .before .before .args .i) (c .before .before .before .args .n) (c .before .before .loop .j) (c .before .before .loop .value) (omega arith) (omega arith) (c .before .before .loop .inv .1), word-small (c .before .before .loop .j) (c .before .before .loop .value) _ (c .before .before .loop .inv .2) (omega (arith, c .shared-slice-known .given (c .before .before .before .args .i + (c .before .before .before .args .n - 1 - c .before .before .loop .j)))))
+loop-again c = (
+  omega arith,
+  ap (λ (b : ℕ). b + 256 * c .before .before .before .loop .value) (c .widened .ensures .0) ∙ word-turn (now (c .before .before .before .before .before .args .s)) (c .before .before .before .before .before .args .i) (c .before .before .before .before .before .args .n) (c .before .before .before .loop .j) (c .before .before .before .loop .value) (omega arith) (omega arith) (c .before .before .before .loop .inv .1),
+  word-small (c .before .before .before .loop .j) (c .before .before .before .loop .value) _ (c .before .before .before .loop .inv .2) (c .widened .ensures .1),
+)
 
 returns : tie.Need-returns Inv-loop μ-loop
-returns c = let a : c .before .loop .j ≡ c .before .before .args .n = omega arith in
-    let b : c .before .before .args .i + (c .before .before .args .n - c .before .before .args .n) ≡ c .before .before .args .i = omega arith in
+returns c = let a : c .before .loop .j ≡ c .before .before .before .args .n = omega arith in
+    let b : c .before .before .before .args .i + (c .before .before .before .args .n - c .before .before .before .args .n) ≡ c .before .before .before .args .i = omega arith in
     rw (a, b) at (c .before .loop .inv .1)
 
 pub word-spec : {M : Type 1} → statement M
@@ -63,11 +67,11 @@ word-spec =
     loop-holds
     sub-k
     sub-k-2
-    add-value
-    shared-slice-read-value
-    cast-value
+    add-widened
+    shared-slice-read-widened
+    widened-requires
     mul-value
-    add-value-2
+    add-value
     add-j
     loop-less
     loop-again
