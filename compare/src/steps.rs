@@ -45,9 +45,18 @@ fn propagate(k: usize) -> Step {
     Step::Propagate { clause, literal: 1, instance }
 }
 
-/// Two entries, of the kth of 80 literals over ten constants
-fn few(k: usize) -> Step {
-    propagate(k / 10 * 16 + k % 10)
+/// The kth of 80 literals over ten constants, among the 128
+fn few(k: usize) -> usize {
+    k / 10 * 16 + k % 10
+}
+
+/// So many entries over ten constants: decisions, or propagations where there are not literals enough.
+fn trail_of_few(entries: usize) -> Vec<Step> {
+    if entries <= 80 {
+        (0..entries).map(|k| decide(few(k))).collect()
+    } else {
+        (0..entries / 2).map(|k| propagate(few(k))).collect()
+    }
 }
 
 fn file(constants: u8, steps: Vec<Step>) -> Vec<u8> {
@@ -82,7 +91,7 @@ fn near(rule: &'static str, entries: usize) -> Near {
         // The first of them empties the trail.
         "grow" => {
             constants = 10;
-            ((0..entries / 2).map(few).collect(), vec![Step::Grow { count: 1 }; 6])
+            (trail_of_few(entries), vec![Step::Grow { count: 1 }; 6])
         }
         _ => (
             (0..entries / 2 - 4).map(propagate).collect(),
