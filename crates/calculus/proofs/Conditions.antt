@@ -12,7 +12,7 @@ use Rattle.lists.proofs.Meanings.{_&_}
 use Rattle.lists.proofs.Tests.{Said, fails, holds, said}
 use Rattle.calculus.specs.Checks.{Check}
 use Rattle.calculus.specs.Clauses.{Instanced, complement}
-use Rattle.calculus.specs.Conditions.{AcceptedExactlyIfAllowed, Allowed, Largest, LastGoes, LastPropagated}
+use Rattle.calculus.specs.Conditions.{AcceptedExactlyIfAllowed, Allowed, IsLargestLevel, LastGoes, LastPropagated}
 use Rattle.calculus.specs.Reasons.{BackLevelLargest, ComplementNotIn, Condition, conditions}
 use Rattle.calculus.specs.Rules.{Answer, asks, backLevel, lastLiteral, literalInstance, otherInstances}
 use Rattle.calculus.specs.States.{Backtrack, Conflict, Decide, Factorize, Grow, Propagate, Resolve, Skip, State, Step, Unknown, conflictOf}
@@ -23,11 +23,11 @@ use Rattle.calculus.proofs.Reasons.{Match, _also_, all, matched}
 
 -- ---- i is the largest level in D
 
-largest-level : (t : Trail) (D : List Literal) → Largest t D (largestLevel t D)
+largest-level : (t : Trail) (D : List Literal) → IsLargestLevel t D (largestLevel t D)
 largest-level t [] = record { at-most = λ m i. absurd (List·Memᴰ·not-nil i); reached = inl (refl, refl) }
 largest-level t (l ∷ D) = go (largest-level t D) (said (leb (largestLevel t D) (levelOf l t)))
   where
-    most : Largest t D (largestLevel t D) → (m : Literal) → (m ≡ l) ⊎ List·Memᴰ m D → levelOf m t ≤ largestLevel t (l ∷ D)
+    most : IsLargestLevel t D (largestLevel t D) → (m : Literal) → (m ≡ l) ⊎ List·Memᴰ m D → levelOf m t ≤ largestLevel t (l ∷ D)
     most r m (inl e) = rw e (omega arith)
     most r m (inr h) = let k = r .at-most m h in omega arith
 
@@ -36,7 +36,7 @@ largest-level t (l ∷ D) = go (largest-level t D) (said (leb (largestLevel t D)
     reach h (inl (d, e)) = absurd (omega arith)
     reach h (inr (m, i, e)) = (m, List·Memᴰ·tail i, omega arith)
 
-    go : Largest t D (largestLevel t D) → Said (leb (largestLevel t D) (levelOf l t)) → Largest t (l ∷ D) (largestLevel t (l ∷ D))
+    go : IsLargestLevel t D (largestLevel t D) → Said (leb (largestLevel t D) (levelOf l t)) → IsLargestLevel t (l ∷ D) (largestLevel t (l ∷ D))
     go r (holds h) =
         let k = leb→le (largestLevel t D) (levelOf l t) h in
         record { at-most = λ m i. most r m (List·Memᴰ·cases-cons i); reached = inr (l, List·Memᴰ·head refl, omega arith) }
@@ -44,7 +44,7 @@ largest-level t (l ∷ D) = go (largest-level t D) (said (leb (largestLevel t D)
         let k = nleb→lt (largestLevel t D) (levelOf l t) h in
         record { at-most = λ m i. most r m (List·Memᴰ·cases-cons i); reached = inr (reach k (r .reached)) }
 
-largest-le : (t : Trail) (D : List Literal) (i j : ℕ) → Largest t D i → Largest t D j → i ≤ j
+largest-le : (t : Trail) (D : List Literal) (i j : ℕ) → IsLargestLevel t D i → IsLargestLevel t D j → i ≤ j
 largest-le t D i j a b = go (a .reached)
   where
     go : ((D ≡ []) × (i ≡ zero)) ⊎ ((m : Literal) × List·Memᴰ m D × (levelOf m t ≡ i)) → i ≤ j
@@ -52,7 +52,7 @@ largest-le t D i j a b = go (a .reached)
     go (inr (m, h, e)) = let k = b .at-most m h in omega arith
 
 -- Only one number is the largest.
-largest-one : (t : Trail) (D : List Literal) (i : ℕ) → Largest t D i → i ≡ largestLevel t D
+largest-one : (t : Trail) (D : List Literal) (i : ℕ) → IsLargestLevel t D i → i ≡ largestLevel t D
 largest-one t D i a =
     let r = largest-level t D in
     let h = largest-le t D i (largestLevel t D) a r in

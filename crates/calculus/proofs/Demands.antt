@@ -1,7 +1,7 @@
 -- What every state reached has, and the demands: soundness and replay over any run with refused steps in it.
 use mathlib.Core.Path.{_∙_, _≡_, ap, refl, subst, sym}
 use mathlib.Core.Logic.{_↔_, _⊎_, inl, inr}
-use mathlib.Core.List.{List, List·Memᴰ, List·Memᴰ·append-cases, List·Memᴰ·cases-cons, List·Memᴰ·head, List·Memᴰ·not-nil, List·Memᴰ·tail, Memᴰ·append-left, Memᴰ·append-right, Memᴰ·map, [], _++_, _∷_, append-nil}
+use mathlib.Core.List.{List, List·Memᴰ, List·Memᴰ·append-cases, List·Memᴰ·eq-of-singleton, List·Memᴰ·head, List·Memᴰ·not-nil, List·Memᴰ·tail, Memᴰ·append-left, Memᴰ·append-right, Memᴰ·map, [], _++_, _∷_, append-nil}
 use mathlib.Core.Option.{Option, none, some}
 use mathlib.Core.Bool.{Bool, _&&_, _||_, cond, false, not, true}
 use Prim.Native.Nat.{zero, ℕ}
@@ -17,9 +17,9 @@ use Rattle.lists.proofs.Tests.{F→eq, Said, T→eq, fails, holds, said}
 use Rattle.lists.specs.Lists.{anyOf}
 use Rattle.calculus.specs.Admission.{Admitted}
 use Rattle.calculus.specs.Clauses.{Clause, Instanced, ground, groundAtoms}
-use Rattle.calculus.specs.Demands.{Demand2, Demand3, EveryStateReached, Never17, Once, ReachedSound, RefusalNever17, Replay, Soundness}
+use Rattle.calculus.specs.Demands.{Demand2, Demand3, EveryStateReached, Never17, Once, ReachedSound, RefusalNever17, Replay, SoundJudge}
 use Rattle.calculus.specs.Rules.{Answer, Judged, asks, backLevel, next, question}
-use Rattle.calculus.specs.Runs.{AcceptedRun, Run, replayed, restarted}
+use Rattle.calculus.specs.Runs.{AcceptedRun, Run, plain, replayed, restarted}
 use Rattle.calculus.specs.States.{Backtrack, Conflict, Decide, Factorize, Grow, Propagate, Resolve, Skip, State, Step, Unknown, clauseAt, clauses, conflictOf}
 use Rattle.calculus.specs.Trails.{Entry, Origin, Trail, appendAtoms, atomOnTrail, atomsOf, background, cut, decided, decisions, foreground, isFalse, propagated}
 use Rattle.calculus.proofs.Answers.{acceptance, fault-given, refused-hands-back}
@@ -33,7 +33,7 @@ atoms-tail {a = a} (there {e = e} {u = u} h) m = go e (atoms-tail h m)
   where
     go : (e : Entry) → List·Memᴰ a (atomsOf u) → List·Memᴰ a (atomsOf (e ∷ u))
     go (foreground l s) m = m
-    go (background b) m = List·Memᴰ·tail m
+    go (background b) m = Memᴰ·append-left (b ∷ []) m
 
 -- The atoms of a standing conflict are possible together with any cut of the trail
 pub never-17 : {nums : Numbers} {arities : List ℕ} {cs input : List Clause} {n : ℕ} {t : Trail} {N : Instanced} → Stands nums arities cs input n t N → (i : ℕ) → Possible nums n (atomsOf (cut i t) ++ groundAtoms (N .instance) (N .clause .atoms))
@@ -59,14 +59,14 @@ atoms-from : (az : List Atom) (t : Trail) {a : Atom} → List·Memᴰ a (atomsOf
 atoms-from [] t m = inl m
 atoms-from (b ∷ az) t {a} m = go (atomOnTrail b t) (atoms-from az (cond (atomOnTrail b t) t (background b ∷ t)) m)
   where
-    hd : (a ≡ b) ⊎ List·Memᴰ a (atomsOf t) → List·Memᴰ a (atomsOf t) ⊎ List·Memᴰ a (b ∷ az)
-    hd (inl e) = inr (List·Memᴰ·head e)
-    hd (inr h) = inl h
+    last : List·Memᴰ a (atomsOf t) ⊎ List·Memᴰ a (b ∷ []) → List·Memᴰ a (atomsOf t) ⊎ List·Memᴰ a (b ∷ az)
+    last (inl h) = inl h
+    last (inr h) = inr (List·Memᴰ·head (List·Memᴰ·eq-of-singleton h))
 
     go : (c : Bool) → List·Memᴰ a (atomsOf (cond c t (background b ∷ t))) ⊎ List·Memᴰ a az → List·Memᴰ a (atomsOf t) ⊎ List·Memᴰ a (b ∷ az)
     go c (inr h) = inr (List·Memᴰ·tail h)
     go true (inl h) = inl h
-    go false (inl h) = hd (List·Memᴰ·cases-cons h)
+    go false (inl h) = last (List·Memᴰ·append-cases (atomsOf t) h)
 
 pub built-possible : {nums : Numbers} {cs : List Clause} {n : ℕ} {t : Trail} → Built nums cs n t → Possible nums n (atomsOf t)
 built-possible {nums} {n = n} (empty e) = subst (λ t. Possible nums n (atomsOf t)) (sym e) (possible-none nums n)
@@ -107,7 +107,7 @@ inv-judged {nums} s x a v j = go (ℕ-discrete (a .number) zero)
     go (yes e) = inv-step s x (a .state) v (acceptance nums s x a j e)
     go (no e) = subst (Inv nums) (sym (refused-hands-back nums s x a j e)) v
 
-pub inv-run : {nums : Numbers} {s s′ : State} {xs : List Step} → Inv nums s → Run nums s xs s′ → Inv nums s′
+pub inv-run : {nums : Numbers} {s s′ : State} {xs : List Step} → Inv nums s → Run (plain nums) s xs s′ → Inv nums s′
 inv-run {nums} v (Run.over e) = subst (Inv nums) e v
 inv-run {s = s} v (Run.then {x = x} a j r) = inv-run (inv-judged s x a v j) r
 
@@ -133,7 +133,7 @@ judged-input {nums} s x a j = go (ℕ-discrete (a .number) zero)
     go (yes e) = same (acceptance nums s x a j e .is) (next-input s x)
     go (no e) = same (refused-hands-back nums s x a j e) (refl, refl)
 
-pub run-input : {nums : Numbers} {s s′ : State} {xs : List Step} → Run nums s xs s′ → (s′ .input ≡ s .input) × (s′ .arities ≡ s .arities)
+pub run-input : {nums : Numbers} {s s′ : State} {xs : List Step} → Run (plain nums) s xs s′ → (s′ .input ≡ s .input) × (s′ .arities ≡ s .arities)
 run-input (Run.over e) = (sym (ap (λ (q : State). q .input) e), sym (ap (λ (q : State). q .arities) e))
 run-input {s = s} (Run.then {x = x} a j r) = let h = run-input r in let k = judged-input s x a j in (h .0 ∙ k .0, h .1 ∙ k .1)
 
@@ -154,11 +154,11 @@ reached : (nums : Numbers) → ReachedSound nums
 reached nums s₀ s xs ad r = record {
   once = now-once nums s (s .conflict) (v .now);
   possible = now-possible nums s (s .conflict) (v .now);
-  true = λ C m. v .held C (Memᴰ·append-right (s .input) m) .follows;
+  follow = λ C m. v .held C (Memᴰ·append-right (s .input) m) .follows;
   class = λ C m. v .held C (Memᴰ·append-right (s .input) m) .class;
   limited = λ C m. v .held C (Memᴰ·append-right (s .input) m) .limited;
   level = v .level;
-  false = λ K e. now-false nums s K (subst (Now nums s) e (v .now));
+  denied = λ K e. now-false nums s K (subst (Now nums s) e (v .now));
 }
   where
     v : Inv nums s
@@ -169,8 +169,8 @@ every-state-reached = reached whole
 
 -- ---- demand 2: soundness
 
-soundness : (nums : Numbers) → Soundness nums
-soundness nums s₀ s xs K ad r e z I h =
+sound-judge : (nums : Numbers) → SoundJudge nums (plain nums)
+sound-judge nums s₀ s xs K ad r e z I h =
     refuted K (subst (λ q. Stands nums q (clauses s) (s .input) (s .constants) (s .trail) K) (same .1) (subst (Now nums s) e (inv-run (inv-start nums s₀ ad) r .now))) z I
     (λ C m. h C (subst (List·Memᴰ C) (same .0) m))
   where
@@ -178,13 +178,13 @@ soundness nums s₀ s xs K ad r e z I h =
     same = run-input r
 
 pub demand-2 : Demand2
-demand-2 = soundness whole
+demand-2 = sound-judge whole
 
 -- ---- demand 3: replay
 
 replay : (nums : Numbers) → Replay nums
 replay nums s₀ s xs ad r e =
-    subst (AcceptedRun nums (restarted s) (replayed (s .trail)))
+    subst (AcceptedRun (plain nums) (restarted s) (replayed (s .trail)))
     (λ i. record { arities = s .arities; trail = s .trail; input = s .input; learned = s .learned; constants = s .constants; level = sym (v .level) i; conflict = sym e i })
     (built-again s (subst (Now nums s) e (v .now) .lower))
   where

@@ -36,7 +36,7 @@ use Rattle.calculus.proofs.Trails.{Below, Built, DecOk, PropOk, StepOk,
 use Rattle.calculus.proofs.Truths.{alike, factored-true, reason-true, resolvent-true}
 
 -- What every clause held has: it is of the class, within the limits, and true wherever the input is.
-pub record Held (nums : Numbers) (arities : List ℕ) (input : List Clause) (C : Clause) : Type 1 where
+pub record Entailed (nums : Numbers) (arities : List ℕ) (input : List Clause) (C : Clause) : Type 1 where
   pub class : InClass arities C
   pub limited : Limited C
   pub follows : Follows nums arities input C
@@ -47,7 +47,7 @@ pub record Stands (nums : Numbers) (arities : List ℕ) (cs input : List Clause)
   pub built : Built nums cs n t₀
   pub tail : Tail t t₀
   pub possible : Possible nums n (atomsOf t₀ ++ groundAtoms (N .instance) (N .clause .atoms))
-  pub held : Held nums arities input (N .clause)
+  pub held : Entailed nums arities input (N .clause)
   pub sized : Sized n (N .clause .variables) (N .instance)
   pub isfalse : (l : Literal) → List·Memᴰ l (map (ground (N .instance)) (N .clause .literals)) → T (isFalse t l)
 
@@ -57,7 +57,7 @@ Now nums s (some N) = Stands nums (s .arities) (clauses s) (s .input) (s .consta
 
 -- What every state reached has
 pub record Inv (nums : Numbers) (s : State) : Type 1 where
-  pub held : (C : Clause) → List·Memᴰ C (clauses s) → Held nums (s .arities) (s .input) C
+  pub held : (C : Clause) → List·Memᴰ C (clauses s) → Entailed nums (s .arities) (s .input) C
   pub level : s .level ≡ decisions (s .trail)
   pub now : Now nums s (s .conflict)
 
@@ -218,7 +218,7 @@ factorize-keeps {nums} s i j v a = record { held = v .held; level = v .level; no
     k : AllOk (asks (a .possible) s (Factorize i j))
     k = a .checks
 
-resolve-keeps-conflict : {nums : Numbers} (arities : List ℕ) (cs input : List Clause) (n : ℕ) → ((C : Clause) → List·Memᴰ C cs → Held nums arities input C)
+resolve-keeps-conflict : {nums : Numbers} (arities : List ℕ) (cs input : List Clause) (n : ℕ) → ((C : Clause) → List·Memᴰ C cs → Entailed nums arities input C)
     → (N : Instanced) (j : ℕ) (t : Trail) → T (literalExists (N .clause) j) → Limited (resolvent N (j - 1) (lastReason cs t .of) (lastReason cs t .own) .clause) → T (lastIsPropagated t) → T (sameLiteral (complement (lastLiteral t)) (literalInstance N j)) → Stands nums arities cs input n t N
     → Stands nums arities cs input n t (resolvent N (j - 1) (lastReason cs t .of) (lastReason cs t .own))
 resolve-keeps-conflict {nums} arities cs input n helds N j [] okj few p e w = absurd p
@@ -403,9 +403,9 @@ backtrack-keeps {nums} s l v a = record {
     asc : snoc (clauses s) (N .clause) ≡ s .input ++ (s .learned ++ (N .clause ∷ []))
     asc = append-assoc (s .input) (s .learned) (N .clause ∷ [])
 
-    helds : (C : Clause) → List·Memᴰ C (clauses s) ⊎ List·Memᴰ C (N .clause ∷ []) → Held nums (s .arities) (s .input) C
+    helds : (C : Clause) → List·Memᴰ C (clauses s) ⊎ List·Memᴰ C (N .clause ∷ []) → Entailed nums (s .arities) (s .input) C
     helds C (inl m) = v .held C m
-    helds C (inr m) = subst (Held nums (s .arities) (s .input)) (sym (List·Memᴰ·eq-of-singleton m)) (w .held)
+    helds C (inr m) = subst (Entailed nums (s .arities) (s .input)) (sym (List·Memᴰ·eq-of-singleton m)) (w .held)
 
 -- ---- every rule
 pub inv-step : {nums : Numbers} (s : State) (x : Step) (s′ : State) → Inv nums s → Accepted nums s x s′ → Inv nums s′

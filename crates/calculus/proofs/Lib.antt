@@ -12,6 +12,7 @@ pub mod Reasons
 pub mod Conditions
 pub mod Admitting
 pub mod Trails
+pub mod Runs
 pub mod Class
 pub mod Levels
 pub mod Invariant

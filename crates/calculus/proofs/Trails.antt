@@ -1,7 +1,7 @@
 -- Trails that are built group by group, what lies below an entry of one, and that the steps behind its entries build it again.
 use mathlib.Core.Path.{_∙_, _≡_, ap, refl, subst, sym}
 use mathlib.Core.Logic.{_⊎_, inl, inr}
-use mathlib.Core.List.{List, List·Memᴰ, List·Memᴰ·cases-cons, List·Memᴰ·head, List·Memᴰ·not-nil, List·Memᴰ·tail, Memᴰ·cast, [], _++_, _∷_, reverse, reverse-cons}
+use mathlib.Core.List.{List, List·Memᴰ, List·Memᴰ·cases-cons, List·Memᴰ·head, List·Memᴰ·not-nil, Memᴰ·append-left, Memᴰ·append-right, Memᴰ·cast, [], _++_, _∷_, reverse, reverse-cons}
 use mathlib.Core.Option.{none}
 use mathlib.Core.Bool.{Bool, _&&_, _||_, cond, false, true}
 use Prim.Native.Nat.{_-_, suc, zero, ℕ}
@@ -16,7 +16,7 @@ use Rattle.basis.specs.declared.Literal.{Literal}
 use Rattle.lists.proofs.Tests.{F→eq, Said, T→eq, and-i, fails, holds, said}
 use Rattle.calculus.specs.Clauses.{Clause, ground, groundAtoms, noLiteral, sameAtom}
 use Rattle.calculus.specs.Rules.{clauseExists, decidedLiteral, instanceFits, literalExists, next, othersFalse, propagatedTrail}
-use Rattle.calculus.specs.Runs.{AcceptedRun, replayed, restarted, stepOf, stepsOf}
+use Rattle.calculus.specs.Runs.{AcceptedRun, plain, replayed, restarted, stepOf, stepsOf}
 use Rattle.calculus.specs.States.{State, Step, clauseAt, clauses, updated}
 use Rattle.calculus.specs.Trails.{Entry, Origin, Trail, appendAtoms, atomOnTrail, atomsOf, background, decided, decisions, foreground, propagated, undefined}
 use Rattle.calculus.proofs.Answers.{Accepted, accepted-next}
@@ -113,21 +113,21 @@ replay-step nums s t (decided c l true τ) k = record { possible = true; decides
 replay-step nums s t (decided c l false τ) k = record { possible = true; decides = (λ _. possible-none nums (s .constants), λ _. tt); checks = (k .1 .short, (tt, (tt, (and-i (clauseExists (clauses s) c) (literalExists (clauseAt (clauses s) c) l && instanceFits (s .constants) (clauseAt (clauses s) c) τ) (k .0) (k .1 .named), (k .1 .undefined-yet, (k .1 .room, tt)))))); is = refl }
 
 -- An accepted step, as a run of one more step
-run-more : {nums : Numbers} {s s₁ s′ : State} {xs : List Step} (x : Step) → AcceptedRun nums s xs s₁ → Accepted nums s₁ x s′ → AcceptedRun nums s (xs ++ (x ∷ [])) s′
-run-more {nums} {s} {s₁} {s′} x (AcceptedRun.over e) d =
-    subst (λ q. AcceptedRun nums q (x ∷ []) s′) (sym e)
+accepted-more : {nums : Numbers} {s s₁ s′ : State} {xs : List Step} (x : Step) → AcceptedRun (plain nums) s xs s₁ → Accepted nums s₁ x s′ → AcceptedRun (plain nums) s (xs ++ (x ∷ [])) s′
+accepted-more {nums} {s} {s₁} {s′} x (AcceptedRun.over e) d =
+    subst (λ q. AcceptedRun (plain nums) q (x ∷ []) s′) (sym e)
     (AcceptedRun.then (record { number = zero; place = zero; state = next s₁ x })
     (record { possible = d .possible; decides = d .decides; is = sym (accepted-next (d .possible) s₁ x (d .checks)) }) refl (AcceptedRun.over (sym (d .is))))
-run-more x (AcceptedRun.then a j z r) d = AcceptedRun.then a j z (run-more x r d)
+accepted-more x (AcceptedRun.then a j z r) d = AcceptedRun.then a j z (accepted-more x r d)
 
 -- A built trail is built again by the steps behind its foreground entries.
-pub built-again : {nums : Numbers} (s : State) {t : Trail} → Built nums (clauses s) (s .constants) t → AcceptedRun nums (restarted s) (replayed t) (updated s t (decisions t) none)
-built-again {nums} s {t} (empty e) = subst (λ u. AcceptedRun nums (restarted s) (replayed u) (updated s u (decisions u) none)) (sym e) (AcceptedRun.over refl)
+pub built-again : {nums : Numbers} (s : State) {t : Trail} → Built nums (clauses s) (s .constants) t → AcceptedRun (plain nums) (restarted s) (replayed t) (updated s t (decisions t) none)
+built-again {nums} s {t} (empty e) = subst (λ u. AcceptedRun (plain nums) (restarted s) (replayed u) (updated s u (decisions u) none)) (sym e) (AcceptedRun.over refl)
 built-again {nums} s {t} (group {t = u} m b k e) =
-    subst (λ w. AcceptedRun nums (restarted s) (replayed w) (updated s w (decisions w) none)) (sym e)
-    (subst (λ xs. AcceptedRun nums (restarted s) xs (updated s g (decisions g) none))
+    subst (λ w. AcceptedRun (plain nums) (restarted s) (replayed w) (updated s w (decisions w) none)) (sym e)
+    (subst (λ xs. AcceptedRun (plain nums) (restarted s) xs (updated s g (decisions g) none))
     (sym (ap reverse (steps-push (atomsBy (clauses s) m) (foreground (literalBy (clauses s) m) m ∷ u)) ∙ reverse-cons (stepOf m) (stepsOf u)))
-    (run-more (stepOf m) (built-again s b) (replay-step nums s u m k)))
+    (accepted-more (stepOf m) (built-again s b) (replay-step nums s u m k)))
   where
     g : Trail
     g = grown (clauses s) m u
@@ -137,16 +137,16 @@ tail-none : {t : Trail} {e : Entry} → Tail (e ∷ t) [] → ⊥
 tail-none (here p) = let z : _≡_ {A = ℕ} 0 1 = cc in omega arith
 
 pub atoms-push : (az : List Atom) (t : Trail) {a : Atom} → List·Memᴰ a (atomsOf t) → List·Memᴰ a (atomsOf (appendAtoms az t))
-atoms-push az t {a} m = push-ind (λ u. List·Memᴰ a (atomsOf u)) (λ b u h. List·Memᴰ·tail h) az t m
+atoms-push az t {a} m = push-ind (λ u. List·Memᴰ a (atomsOf u)) (λ b u h. Memᴰ·append-left (b ∷ []) h) az t m
 
 on-mem : (a : Atom) (t : Trail) → T (atomOnTrail a t) → List·Memᴰ a (atomsOf t)
 on-mem a [] h = absurd h
 on-mem a (foreground l m ∷ t) h = on-mem a t h
 on-mem a (background b ∷ t) h = go (λ k. on-mem a t k) (sameAtom a b) refl h
   where
-    go : (T (atomOnTrail a t) → List·Memᴰ a (atomsOf t)) → (c : Bool) → sameAtom a b ≡ c → T (c || atomOnTrail a t) → List·Memᴰ a (b ∷ atomsOf t)
-    go ih true e h = List·Memᴰ·head (sameAtom→eq a b (subst T (sym e) tt))
-    go ih false e h = List·Memᴰ·tail (ih h)
+    go : (T (atomOnTrail a t) → List·Memᴰ a (atomsOf t)) → (c : Bool) → sameAtom a b ≡ c → T (c || atomOnTrail a t) → List·Memᴰ a (atomsOf t ++ (b ∷ []))
+    go ih true e h = Memᴰ·append-right (atomsOf t) (List·Memᴰ·head (sameAtom→eq a b (subst T (sym e) tt)))
+    go ih false e h = Memᴰ·append-left (b ∷ []) (ih h)
 
 pub pushed : (az : List Atom) (t : Trail) {a : Atom} → List·Memᴰ a az → List·Memᴰ a (atomsOf (appendAtoms az t))
 pushed [] t m = absurd (List·Memᴰ·not-nil m)
@@ -158,7 +158,7 @@ pushed (b ∷ az) t {a} m = go (λ u h. pushed az u h) (List·Memᴰ·cases-cons
     go : ((u : Trail) → List·Memᴰ a az → List·Memᴰ a (atomsOf (appendAtoms az u))) → (a ≡ b) ⊎ List·Memᴰ a az → Said (atomOnTrail b t) → List·Memᴰ a (atomsOf (appendAtoms az u))
     go ih (inr h) s = ih u h
     go ih (inl e) (holds h) = atoms-push az u (rw (T→eq (atomOnTrail b t) h) (Memᴰ·cast e (on-mem b t h)))
-    go ih (inl e) (fails h) = atoms-push az u (rw (F→eq (atomOnTrail b t) h) (List·Memᴰ·head e))
+    go ih (inl e) (fails h) = atoms-push az u (rw (F→eq (atomOnTrail b t) h) (Memᴰ·append-right (atomsOf t) (List·Memᴰ·head e)))
 
 abbrev litOf : Literal → Trail → Literal
 litOf d [] = d

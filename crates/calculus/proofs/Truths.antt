@@ -16,12 +16,12 @@ use Rattle.lists.specs.Lists.{indexOf, keepIf, pairUp, upFrom, without}
 use Rattle.calculus.specs.Class.{arityOf}
 use Rattle.calculus.specs.Clauses.{Clause, Instanced, arguments, complement, ground, noLiteral, renameAtom, renameLiteral, sameLiteral, under}
 use Rattle.calculus.specs.Merging.{apart, closeUp, distinct, factored, joins, merge, occursIn, ownPairs, reason, reasonLiterals, resolvent}
-use Rattle.calculus.specs.Truth.{AllHold, LiteralHolds, NoneHolds, Reading, True, signed}
+use Rattle.calculus.specs.Truth.{AllHold, LiteralHolds, NoneHolds, Reading, True, withSign}
 use Rattle.calculus.proofs.Merged.{distinct-in, joins-meet, sameLiteral→eq}
 
-pub signed-clash : (b : Bool) (P : Type 0) → signed b P → signed (not b) P → ⊥
-signed-clash true P p n = n p
-signed-clash false P n p = n p
+pub sign-clash : (b : Bool) (P : Type 0) → withSign b P → withSign (not b) P → ⊥
+sign-clash true P p n = n p
+sign-clash false P n p = n p
 
 -- L and m can be merged: the same but for their arguments
 pub record Alike (l m : Literal) : Type 0 where
@@ -46,7 +46,7 @@ module _ (nums : Numbers) (arities : List ℕ) where
 
   -- Two literals with the same sign and predicate, and arguments that ρ reads alike
   literal-same : (I : Reading nums arities) (ρ : ℕ → nums .Number) (l m : Literal) → l .positive ≡ m .positive → l .predicate ≡ m .predicate → map ρ (arguments l) ≡ map ρ (arguments m) → LiteralHolds nums arities I ρ l → LiteralHolds nums arities I ρ m
-  literal-same I ρ l m e f g t = subst (λ (X : Type 0). X) (λ i. signed (e i) (I (f i) (take (arityOf arities (f i)) (g i)))) t
+  literal-same I ρ l m e f g t = subst (λ (X : Type 0). X) (λ i. withSign (e i) (I (f i) (take (arityOf arities (f i)) (g i)))) t
 
   pub factored-true : (I : Reading nums arities) (N : Instanced) (i j : ℕ) → Alike (getD (N .clause .literals) (max i j) noLiteral) (getD (N .clause .literals) (min i j) noLiteral)
       → min i j < max i j → max i j < length (N .clause .literals) → True nums arities I (N .clause) → True nums arities I (factored N i j .clause)
@@ -89,7 +89,7 @@ module _ (nums : Numbers) (arities : List ℕ) where
       go ρ z e ha hl = hN ρ z (λ a m. ha a (Memᴰ·append-left _ m)) (λ l m. inN l (without-cases j (N .clause .literals) noLiteral m))
         where
           clash : LiteralHolds nums arities I ρ L → LiteralHolds nums arities I ρ (renameLiteral (apart v) M) → ⊥
-          clash t u = signed-clash (M .positive) (I (M .predicate) (take (arityOf arities (M .predicate)) (map ρ (map (apart v) (arguments M))))) u
+          clash t u = sign-clash (M .positive) (I (M .predicate) (take (arityOf arities (M .predicate)) (map ρ (map (apart v) (arguments M))))) u
               (literal-same I ρ L (complement (renameLiteral (apart v) M)) (k .signs) (k .predicates) (pairUp-eq ρ (arguments L) (map (apart v) (arguments M)) refl e) t)
 
           inR : LiteralHolds nums arities I ρ L → (l : Literal) → (l ≡ M) ⊎ List·Memᴰ l (without i (R .clause .literals)) → ¬ LiteralHolds nums arities I (λ x. ρ (apart v x)) l

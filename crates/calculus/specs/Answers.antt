@@ -14,12 +14,13 @@ use Rattle.calculus.specs.Checks.{Check}
 use Rattle.calculus.specs.Clauses.{ground, noLiteral}
 use Rattle.calculus.specs.OnTrail.{False}
 use Rattle.calculus.specs.Rules.{Answer, Judged, asks, next, question}
+use Rattle.calculus.specs.Runs.{AnswersOnce, plain}
 use Rattle.calculus.specs.States.{Backtrack, Conflict, Decide, Factorize, Grow, Propagate, Resolve, Skip, State, Step, Unknown, clauseAt, clauses}
 use Rattle.calculus.specs.Trails.{Trail}
 
 -- The promises are strong enough "that the answer is unique".
 abbrev pub AnswerUnique : Numbers → Type 0
-AnswerUnique N = (s : State) (x : Step) (a b : Answer) → Judged N s x a → Judged N s x b → a ≡ b
+AnswerUnique N = AnswersOnce (plain N)
 
 -- An accepted step leads to the state that its rule names.
 abbrev pub AcceptedLeadsOn : Numbers → Type 0

@@ -50,7 +50,7 @@ LastGoes N (foreground l o ∷ t) = (m : Literal) → List·Memᴰ m (N .clause 
 LastGoes N (background a ∷ t) = Unit {0}
 
 -- i is the largest level of the literals D, "0 if D is empty".
-pub record Largest (t : Trail) (D : List Literal) (i : ℕ) : Type 0 where
+pub record IsLargestLevel (t : Trail) (D : List Literal) (i : ℕ) : Type 0 where
   pub at-most : (m : Literal) → List·Memᴰ m D → levelOf m t ≤ i
   pub reached : ((D ≡ []) × (i ≡ zero)) ⊎ ((m : Literal) × List·Memᴰ m D × (levelOf m t ≡ i))
 
@@ -126,7 +126,7 @@ pub record MayBacktrack (N : Numbers) (s : State) (l : ℕ) (K : Instanced) : Ty
   pub not-again : ¬ List·Memᴰ (literalInstance K l) (otherInstances K l)
   -- "i is the largest level in D, 0 if D is empty;"
   pub i : ℕ
-  pub largest : Largest (s .trail) (otherInstances K l) i
+  pub largest : IsLargestLevel (s .trail) (otherInstances K l) i
   -- "L's level is above i."
   pub above : i < levelOf (literalInstance K l) (s .trail)
   -- "Kept atoms and conflict atoms together are possible."

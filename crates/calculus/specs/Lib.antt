@@ -8,6 +8,7 @@ pub mod Class
 pub mod States
 pub mod Admission
 pub mod Rules
+pub mod Runs
 pub mod OnTrail
 pub mod Cuts
 pub mod Conditions
@@ -15,7 +16,6 @@ pub mod Reasons
 pub mod Answers
 pub mod Admitting
 pub mod Truth
-pub mod Runs
 pub mod Merges
 pub mod Demands
 pub mod Examples

@@ -12,7 +12,7 @@ use Rattle.basis.specs.Refusals.{aboveLimit, accepted, alreadyDefined, keptNotP
 use Rattle.basis.specs.declared.Literal.{Literal}
 use Rattle.calculus.specs.Class.{Limited}
 use Rattle.calculus.specs.Clauses.{Clause, Instanced, complement, ground, groundAtoms}
-use Rattle.calculus.specs.Conditions.{Largest, LastPropagated, Names, literalAt}
+use Rattle.calculus.specs.Conditions.{IsLargestLevel, LastPropagated, Names, literalAt}
 use Rattle.calculus.specs.OnTrail.{False, Undefined}
 use Rattle.calculus.specs.Rules.{Answer, Judged, backLevel, decidedLiteral, isOne, lastLiteral, literalInstance, next, otherInstances}
 use Rattle.calculus.specs.States.{Backtrack, Conflict, Decide, Factorize, Grow, Propagate, Resolve, Skip, State, Step, Unknown, clauseAt, clauses, conflictOf}
@@ -130,4 +130,4 @@ RefusedForFirst N = (s : State) (x : Step) (a : Answer) → Judged N s x a → F
 
 -- i of Backtrack: "i is the largest level in D, 0 if D is empty".
 abbrev pub BackLevelLargest : Type 0
-BackLevelLargest = (K : Instanced) (l : ℕ) (t : Trail) → Largest t (otherInstances K l) (backLevel K l t)
+BackLevelLargest = (K : Instanced) (l : ℕ) (t : Trail) → IsLargestLevel t (otherInstances K l) (backLevel K l t)

@@ -105,6 +105,18 @@ abbrev pub levelAfterSkip : Trail → ℕ → ℕ
 levelAfterSkip [] k = k
 levelAfterSkip (e ∷ t) k = cond (isDecision e) (k - 1) k
 
+-- "The conflict is learned", "numbered after the input ones": the number under which a step learns a clause, 0 if it learns none.
+abbrev pub learnsAt : State → Step → ℕ
+learnsAt s (Propagate c l τ) = zero
+learnsAt s (Decide c l g τ) = zero
+learnsAt s (Conflict c τ) = zero
+learnsAt s (Resolve l) = zero
+learnsAt s (Factorize i j) = zero
+learnsAt s Skip = zero
+learnsAt s (Backtrack l) = suc (length (clauses s))
+learnsAt s (Grow n) = zero
+learnsAt s (Unknown r) = zero
+
 abbrev pub next : State → Step → State
 next s (Propagate c l τ) = updated s (propagatedTrail (clauseAt (clauses s) c) (l - 1) τ (propagated c l τ) (s .trail)) (s .level) none
 next s (Decide c l g τ) =
@@ -120,7 +132,7 @@ next s (Backtrack l) =
     let i = backLevel N l (s .trail) in
     record {
       arities = s .arities;
-      trail = propagatedTrail (N .clause) (l - 1) (N .instance) (propagated (suc (length (clauses s))) l (N .instance)) (cut i (s .trail));
+      trail = propagatedTrail (N .clause) (l - 1) (N .instance) (propagated (learnsAt s (Backtrack l)) l (N .instance)) (cut i (s .trail));
       input = s .input;
       learned = s .learned ++ (N .clause ∷ []);
       constants = s .constants;
@@ -226,11 +238,15 @@ notFalsePlace s (Unknown r) = zero
 
 -- ---- the answer
 
--- "The tool takes a state and one proposed step and hands a state back, with a number (0 for accepted) and a place."
-pub record Answer : Type 0 where
+-- "The tool takes a state and one proposed step and hands a state back, with a number (0 for accepted) and a place." S is what is handed
+-- back: a state, or a state with a memory beside it.
+pub record Reply (S : Type 0) : Type 0 where
   pub number : ℕ
   pub place : ℕ
-  pub state : State
+  pub state : S
+
+abbrev pub Answer : Type 0
+Answer = Reply State
 
 -- "A refused step hands back the state it was given"; "every other answer to a step has place 0".
 abbrev pub answer : Bool → State → Step → Answer

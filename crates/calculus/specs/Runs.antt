@@ -6,20 +6,59 @@ use mathlib.Core.Bool.{cond}
 use Prim.Native.Nat.{zero}
 use Rattle.basis.specs.Numbers.{Numbers}
 use Rattle.basis.specs.Refusals.{accepted}
+use Rattle.calculus.specs.Admission.{Admitted}
 use Rattle.calculus.specs.Trails.{Origin, propagated, decided, foreground, background, Trail}
 use Rattle.calculus.specs.States.{State, Step, Propagate, Decide, updated}
-use Rattle.calculus.specs.Rules.{Answer, Judged}
+use Rattle.calculus.specs.Rules.{Answer, Judged, Reply}
 
--- The steps, from left to right, lead from the first state to the last; a refused one leads to the state it was given.
-pub data Run (N : Numbers) : State → List Step → State → Type 0 where
-  over : {s s′ : State} → s ≡ s′ → Run N s [] s′
-  then : {s s′ : State} {x : Step} {xs : List Step} (a : Answer) → Judged N s x a → Run N (a .state) xs s′ → Run N s (x ∷ xs) s′
+-- A way to answer steps: what it runs over (a state, or a state with a memory beside it), the state that stands there, where a run begins,
+-- and the answers that it gives.
+pub record Judge : Type 1 where
+  pub Over : Type 0
+  pub state : Over → State
+  pub start : State → Over
+  pub Gives : Over → Step → Reply Over → Type 0
+
+-- The rules over the numbers N
+abbrev pub plain : Numbers → Judge
+plain N = record { Over = State; state = λ s. s; start = λ s. s; Gives = Judged N }
+
+-- The answer as it is stated: number, place, and the state that stands where it leads
+abbrev pub stated : (J : Judge) → Reply (J .Over) → Answer
+stated J a = record { number = a .number; place = a .place; state = J .state (a .state) }
+
+-- The steps, from left to right, lead from the first place to the last; a refused one leads to the place it was given.
+pub data Run (J : Judge) : J .Over → List Step → J .Over → Type 0 where
+  over : {o o′ : J .Over} → o ≡ o′ → Run J o [] o′
+  then : {o o′ : J .Over} {x : Step} {xs : List Step} (a : Reply (J .Over)) → J .Gives o x a → Run J (a .state) xs o′ → Run J o (x ∷ xs) o′
 
 -- The same with each step accepted
-pub data AcceptedRun (N : Numbers) : State → List Step → State → Type 0 where
-  over : {s s′ : State} → s ≡ s′ → AcceptedRun N s [] s′
-  then : {s s′ : State} {x : Step} {xs : List Step} (a : Answer) → Judged N s x a → a .number ≡ accepted → AcceptedRun N (a .state) xs s′
-      → AcceptedRun N s (x ∷ xs) s′
+pub data AcceptedRun (J : Judge) : J .Over → List Step → J .Over → Type 0 where
+  over : {o o′ : J .Over} → o ≡ o′ → AcceptedRun J o [] o′
+  then : {o o′ : J .Over} {x : Step} {xs : List Step} (a : Reply (J .Over)) → J .Gives o x a → a .number ≡ accepted → AcceptedRun J (a .state) xs o′
+      → AcceptedRun J o (x ∷ xs) o′
+
+-- "Only admission makes a state and only steps change it": there are admitted clauses and a run from them.
+pub record Reached (J : Judge) (o : J .Over) : Type 0 where
+  pub first : State
+  pub steps : List Step
+  pub admitted : Admitted first
+  pub run : Run J (J .start first) steps o
+
+-- Reached is what admission makes, and what a step leads to from there. Both are proved in proofs/Runs.antt.
+abbrev pub AdmittedReached : Type 1
+AdmittedReached = (J : Judge) (s : State) → Admitted s → Reached J (J .start s)
+
+abbrev pub StepsKeepReached : Type 1
+StepsKeepReached = (J : Judge) (o : J .Over) (x : Step) (a : Reply (J .Over)) → Reached J o → J .Gives o x a → Reached J (a .state)
+
+-- A step has one answer at most (of the rules: AnswerUnique) ..
+abbrev pub AnswersOnce : Judge → Type 0
+AnswersOnce J = (o : J .Over) (x : Step) (a b : Reply (J .Over)) → J .Gives o x a → J .Gives o x b → a ≡ b
+
+-- .. and, at a place that was reached, one at least.
+abbrev pub AnswersAll : Judge → Type 0
+AnswersAll J = (o : J .Over) → Reached J o → (x : Step) → (a : Reply (J .Over)) × J .Gives o x a
 
 -- The one Propagate or Decide behind a foreground entry
 abbrev pub stepOf : Origin → Step

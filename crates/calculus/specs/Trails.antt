@@ -1,5 +1,5 @@
 -- The trail: its entries, what is undefined or false on it, levels, and what is appended to it.
-use mathlib.Core.List.{List, [], _∷_}
+use mathlib.Core.List.{List, [], _++_, _∷_}
 use mathlib.Core.Bool.{Bool, true, false, not, _||_, cond}
 use Prim.Native.Nat.{ℕ, zero, suc, max}
 use lib.Dec.{leb}
@@ -68,11 +68,11 @@ abbrev pub cut : ℕ → Trail → Trail
 cut i [] = []
 cut i (e ∷ t) = let r = cut i t in cond (leb (decisions (e ∷ t)) i) (e ∷ t) r
 
--- The background atoms of a trail
+-- The background atoms of a trail, from its first entry on
 abbrev pub atomsOf : Trail → List Atom
 atomsOf [] = []
 atomsOf (foreground l o ∷ t) = atomsOf t
-atomsOf (background a ∷ t) = a ∷ atomsOf t
+atomsOf (background a ∷ t) = atomsOf t ++ (a ∷ [])
 
 -- ".. then the atoms not yet on the trail, in clause order, each once."
 abbrev pub appendAtoms : List Atom → Trail → Trail

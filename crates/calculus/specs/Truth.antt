@@ -12,9 +12,9 @@ use Rattle.calculus.specs.Clauses.{arguments, Clause}
 use Rattle.calculus.specs.Class.{arityOf}
 
 -- A statement as it stands, or denied
-abbrev pub signed : Bool → Type 0 → Type 0
-signed true P = P
-signed false P = ¬ P
+abbrev pub withSign : Bool → Type 0 → Type 0
+withSign true P = P
+withSign false P = ¬ P
 
 -- The numbers are N; predicate n has the nth arity.
 module _ (N : Numbers) (arities : List ℕ) where
@@ -24,7 +24,7 @@ module _ (N : Numbers) (arities : List ℕ) where
 
   -- The literal holds of the numbers ρ has for its arguments, as many as its arity.
   abbrev pub LiteralHolds : Reading → (ℕ → N .Number) → Literal → Type 0
-  LiteralHolds I ρ l = signed (l .positive) (I (l .predicate) (take (arityOf arities (l .predicate)) (map ρ (arguments l))))
+  LiteralHolds I ρ l = withSign (l .positive) (I (l .predicate) (take (arityOf arities (l .predicate)) (map ρ (arguments l))))
 
   abbrev pub AllHold : (ℕ → N .Number) → List Atom → Type 0
   AllHold ρ az = (a : Atom) → List·Memᴰ a az → Holds N ρ a

@@ -18,7 +18,7 @@ use Rattle.fields.specs.Views.{Told, after, ranged, refusedFrom, viewed}
 use Rattle.fields.specs.declared.Cursor.{Cursor}
 use Rattle.calculus.specs.Checks.{_or_, between}
 use Rattle.fields.proofs.Laws.{and-give, held, refused, told-blank, told-of, told-refused, told-view}
-use Rattle.runfile.specs.File.{byte, constant, count, mostSteps, number, second, signed, stepCount, version, within}
+use Rattle.runfile.specs.File.{byte, constant, count, mostSteps, number, second, signedOf, stepCount, version, within}
 use Rattle.runfile.specs.Readers.{Reader, _judged_, _then_, give}
 
 module _ {A : Type 0} (f : Reader A) (ok : A → Bool) (n : ℕ) (s : List ℕ) (c₀ c₁ : Cursor) (x : A) (e : viewed c₁ x ≡ after c₀ (f s)) where
@@ -72,16 +72,16 @@ module _ (s : List ℕ) (c₀ c₁ : Cursor) (v : ℕ) (e : viewed c₁ v ≡ af
 abbrev inRange : ℤ → Bool
 inRange c = leZ (negℤ (pos mostC)) c && leZ c (pos mostC)
 
-small : (w : ℕ) → w ≤ mostC → inRange (signed w) ≡ true
+small : (w : ℕ) → w ≤ mostC → inRange (signedOf w) ≡ true
 small w h = simp (lt-ltb w 2147483648 (omega arith), le-leb w mostC h)
 
-large : (w : ℕ) → 4293967296 ≤ w → w < 4294967296 → inRange (signed w) ≡ true
+large : (w : ℕ) → 4293967296 ≤ w → w < 4294967296 → inRange (signedOf w) ≡ true
 large w h k = simp (le-ltb w 2147483648 (omega arith), le-leb (4294967295 - w) 999999 (omega arith))
 
-middle : (w : ℕ) → mostC < w → w < 4293967296 → inRange (signed w) ≡ false
+middle : (w : ℕ) → mostC < w → w < 4293967296 → inRange (signedOf w) ≡ false
 middle w h k = by (ltb w 2147483648) refl
   where
-    by : (b : Bool) → ltb w 2147483648 ≡ b → inRange (signed w) ≡ false
+    by : (b : Bool) → ltb w 2147483648 ≡ b → inRange (signedOf w) ≡ false
     by true e = simp (e, lt-leb w mostC h)
     by false e = simp (e, lt-leb (4294967295 - w) 999999 (omega arith))
 
@@ -95,10 +95,10 @@ minus-bits k h = ap (λ (z : ℤ). negsuc 0 -ℤ z) (toZ-pos w32 {n = k} h) ∙ 
 pub minus-fits : (k : ℕ) → k < 2147483648 → SFits w32 (negsuc 0 -ℤ toZ w32 k)
 minus-fits k h = rw (minus-bits k h) (sfits-of h)
 
-signed-small : (w : ℕ) → w ≤ mostC → toZ w32 w ≡ signed w
+signed-small : (w : ℕ) → w ≤ mostC → toZ w32 w ≡ signedOf w
 signed-small w h = toZ-pos w32 {n = w} (omega arith) ∙ simp (lt-ltb w 2147483648 (omega arith))
 
-signed-large : (w : ℕ) → 4293967296 ≤ w → w < 4294967296 → toZ w32 (ofZ w32 (negsuc 0 -ℤ toZ w32 (4294967295 - w))) ≡ signed w
+signed-large : (w : ℕ) → 4293967296 ≤ w → w < 4294967296 → toZ w32 (ofZ w32 (negsuc 0 -ℤ toZ w32 (4294967295 - w))) ≡ signedOf w
 signed-large w h k =
     toZ-ofZ (minus-fits (4294967295 - w) (omega arith)) ∙ minus-bits (4294967295 - w) (omega arith)
     ∙ simp (le-ltb w 2147483648 (omega arith))
@@ -106,12 +106,12 @@ signed-large w h k =
 module _ (s : List ℕ) (c₀ c₁ : Cursor) (w : ℕ) (e : viewed c₁ w ≡ after c₀ (number 4 s)) where
   pub constant-small : w ≤ mostC → viewed c₁ (toZ w32 w) ≡ after c₀ (constant s)
   constant-small h =
-      rw (signed-small w h) (one-held (number 4 then λ w. give (signed w)) inRange outOfRange s c₀ c₁ (signed w) (and-give c₀ c₁ w s (number 4) signed e) (small w h))
+      rw (signed-small w h) (one-held (number 4 then λ w. give (signedOf w)) inRange outOfRange s c₀ c₁ (signedOf w) (and-give c₀ c₁ w s (number 4) signedOf e) (small w h))
 
   pub constant-large : 4293967296 ≤ w → w < 4294967296 → viewed c₁ (toZ w32 (ofZ w32 (negsuc 0 -ℤ toZ w32 (4294967295 - w)))) ≡ after c₀ (constant s)
   constant-large h k =
-      rw (signed-large w h k) (one-held (number 4 then λ w. give (signed w)) inRange outOfRange s c₀ c₁ (signed w) (and-give c₀ c₁ w s (number 4) signed e) (large w h k))
+      rw (signed-large w h k) (one-held (number 4 then λ w. give (signedOf w)) inRange outOfRange s c₀ c₁ (signedOf w) (and-give c₀ c₁ w s (number 4) signedOf e) (large w h k))
 
   pub constant-middle : mostC < w → w < 4293967296 → (z : ℤ) → viewed (refusedFrom c₀ c₁ outOfRange) z ≡ after c₀ (constant s)
   constant-middle h k z =
-      one-refused (number 4 then λ w. give (signed w)) inRange outOfRange s c₀ c₁ (signed w) (and-give c₀ c₁ w s (number 4) signed e) z (middle w h k) refl
+      one-refused (number 4 then λ w. give (signedOf w)) inRange outOfRange s c₀ c₁ (signedOf w) (and-give c₀ c₁ w s (number 4) signedOf e) z (middle w h k) refl

@@ -8,15 +8,13 @@ use native.Mathlib.Omega.{arith}
 use borrow.Author.Tests.{ltb-true, ltb-false}
 use lib.Dec.{eqb, ltb}
 use lib.ListN.{getD}
-use Rattle.basis.specs.Numbers.{whole}
 use Rattle.basis.specs.Refusals.{accepted}
 use Rattle.basis.specs.declared.Literal.{Literal}
 use Rattle.lists.proofs.Parts.{same-ends}
 use Rattle.calculus.specs.Clauses.{Instanced}
-use Rattle.calculus.specs.Rules.{Answer}
-use Rattle.calculus.specs.Runs as runs
-use Rattle.calculus.specs.States.{State, Step}
-use Rattle.calculus.proofs.Demands.{demand-2}
+use Rattle.calculus.specs.Rules.{Reply}
+use Rattle.calculus.specs.Runs.{Judge, Run}
+use Rattle.calculus.specs.States.{Step}
 use Rattle.runfile.specs.Readers.{got}
 use Rattle.runfile.specs.Claims.{Outcome, opened}
 use Rattle.runfile.proofs.Given.{every-file}
@@ -27,10 +25,10 @@ use Rattle.listing.specs.Listing.{Tried, through, refused, went, badFile
 use Rattle.listing.specs.Claims.{RefutedHasNoModel}
 
 -- The steps tried are a run.
-pub tried-run : {s : State} {n : ℕ} {xs : List Step} {w : List ℕ} {e : Answer} → Tried s n xs w e → (ys : List Step) × runs.Run whole s ys (e .state)
-tried-run through = ([], runs.over refl)
-tried-run {xs = x ∷ xs} (refused a j z) = (x ∷ [], runs.then a j (runs.over refl))
-tried-run {xs = x ∷ xs} (went a j z t) = let (ys, r) = tried-run t in (x ∷ ys, runs.then a j r)
+tried-run : {J : Judge} {o : J .Over} {n : ℕ} {xs : List Step} {w : List ℕ} {e : Reply (J .Over)} → Tried J o n xs w e → (ys : List Step) × Run J o ys (e .state)
+tried-run through = ([], Run.over refl)
+tried-run {xs = x ∷ xs} (refused a j z) = (x ∷ [], Run.then a j (Run.over refl))
+tried-run {xs = x ∷ xs} (went a j z t) = let (ys, r) = tried-run t in (x ∷ ys, Run.then a j r)
 
 -- ---- which last lines end as `refuted` does
 
@@ -71,9 +69,10 @@ no-literals (some K) e = (K, refl, empty (K .clause .literals) e)
     empty (l ∷ ls) e = let z : _≡_ {A = ℕ} 0 1 = cc in absurd (omega arith)
 
 pub refuted-has-no-model : RefutedHasNoModel
-refuted-has-no-model s w v (badFile n p f) e = absurd (not-bad n p v e)
-refuted-has-no-model s w v (goodFile F next {w = lines} a f t) e =
+refuted-has-no-model N J sound s w v (badFile n p f) e = absurd (not-bad n p v e)
+refuted-has-no-model N J sound s w v (goodFile F next {w = lines} a f t) e =
     let (sayable, whole-file) = subst (Outcome s) f (every-file s) in
     let (ys, r) = tried-run t in
-    let (K, c, z) = no-literals (a .state .conflict) (closing-refuted lines v (isRefutation (a .state .conflict)) (a .number) e) in
-    (F, f ∙ ap (got F) whole-file, demand-2 (opened F) (a .state) ys K (sayable .admitted) r c z)
+    let conflict = J .state (a .state) .conflict in
+    let (K, c, z) = no-literals conflict (closing-refuted lines v (isRefutation conflict) (a .number) e) in
+    (F, f ∙ ap (got F) whole-file, sound (opened F) (a .state) ys K (sayable .admitted) r c z)

@@ -1,41 +1,63 @@
--- What holds of listings: every file has exactly one, `refuted` shows that the clauses have no model, and demand 1. Proved in proofs/.
+-- What holds of listings: every file has exactly one, `refuted` shows that the clauses have no model, and demand 1. What holds of every judge
+-- is stated of every judge; the rules over the whole numbers are one. Proved in proofs/.
 use mathlib.Core.Path.{_≡_}
 use mathlib.Core.List.{List, _++_, List·Memᴰ}
 use Prim.Native.Nat.{ℕ, _<_, _≤_}
 use lib.ListN.{length}
-use Rattle.basis.specs.Numbers.{whole}
+use Rattle.basis.specs.Limits.{mostEntries}
+use Rattle.basis.specs.Numbers.{Numbers, whole}
 use Rattle.basis.specs.Refusals.{accepted, noRoom}
 use Rattle.calculus.specs.Clauses.{Clause}
-use Rattle.calculus.specs.Rules.{Answer, Judged}
+use Rattle.calculus.specs.Demands.{SoundJudge}
+use Rattle.calculus.specs.Rules.{Answer, Judged, Reply}
+use Rattle.calculus.specs.Runs.{AnswersAll, AnswersOnce, Judge, Reached, plain}
 use Rattle.calculus.specs.States.{State, Step}
 use Rattle.calculus.specs.Truth.{Reading, True}
 use Rattle.runfile.specs.Readers.{got}
 use Rattle.runfile.specs.File.{File, file}
 use Rattle.runfile.specs.Claims.{Outcome}
-use Rattle.rules.specs.Answers.{Reached}
 use Rattle.text.specs.Text.{bytes}
+use Rattle.listing.specs.Lines.{lastLine}
 use Rattle.listing.specs.Listing.{Printed, Listing, Ends, mostListing}
 
--- Every file has a listing ..
-abbrev pub EveryFileListed : Type 0
-EveryFileListed = (s : List ℕ) → (w : List ℕ) × Listing s w
+-- ---- of every judge
 
--- .. and only one, whatever is printed after the steps' lines.
-abbrev pub PrintedOnce : Type 0
-PrintedOnce = (after : Answer → List ℕ) (s v w : List ℕ) → Printed after s v → Printed after s w → v ≡ w
+-- A judge that answers all steps prints something of every file, whatever is printed after the steps' lines ..
+abbrev pub EveryFileListed : Type 1
+EveryFileListed = (J : Judge) → AnswersAll J → (after : Answer → List ℕ) (s : List ℕ) → (w : List ℕ) × Printed J after s w
+
+-- .. and one that answers no step in two ways prints only one text of it.
+abbrev pub PrintedOnce : Type 1
+PrintedOnce = (J : Judge) → AnswersOnce J → (after : Answer → List ℕ) (s v w : List ℕ) → Printed J after s v → Printed J after s w → v ≡ w
 
 -- It ends in one way.
-abbrev pub EndsOnce : Type 0
-EndsOnce = (s : List ℕ) (n p m q : ℕ) → Ends s n p → Ends s m q → (n ≡ m) × (p ≡ q)
+abbrev pub EndsOnce : Type 1
+EndsOnce = (J : Judge) → AnswersOnce J → (s : List ℕ) (n p m q : ℕ) → Ends J s n p → Ends J s m q → (n ≡ m) × (p ≡ q)
 
--- The listing of a file that a machine can hold has at most `mostListing` bytes.
-abbrev pub ListingFits : Type 0
-ListingFits = (s w : List ℕ) → length s < 18446744073709551616 → Listing s w → length w ≤ mostListing
+-- No line is longer than a listing has room for: trails and levels are within the trail's limit, and refusals are numbers of the table.
+pub record Modest (J : Judge) : Type 0 where
+  pub few-entries : (o : J .Over) → Reached J o → length (J .state o .trail) ≤ mostEntries
+  pub low-level : (o : J .Over) → Reached J o → J .state o .level ≤ mostEntries
+  pub in-table : (o : J .Over) (x : Step) (a : Reply (J .Over)) → Reached J o → J .Gives o x a → a .number ≤ noRoom
 
--- From bytes: where the last line is `refuted`, no reading of the predicates over the whole numbers makes the file's clauses true.
+-- What such a judge prints with the last line, of a file that a machine can hold, has at most `mostListing` bytes.
+abbrev pub ListingFits : Type 1
+ListingFits = (J : Judge) → Modest J → (s w : List ℕ) → length s < 18446744073709551616 → Printed J lastLine s w → length w ≤ mostListing
+
+-- Of a file's clauses: no reading of the predicates over the numbers N makes them all true.
+abbrev pub NoModel : Numbers → File → Type 1
+NoModel N F = (I : Reading N (F .arities)) → ((C : Clause) → List·Memᴰ C (F .input) → True N (F .arities) I C) → ⊥
+
+-- From bytes: where the judge is sound over N and the last line is `refuted`, the file is a good one and its clauses have no model over N.
 abbrev pub RefutedHasNoModel : Type 1
-RefutedHasNoModel = (s w v : List ℕ) → Listing s w → w ≡ v ++ bytes "refuted\n"
-    → (F : File) × (file s ≡ got F (length s)) × ((I : Reading whole (F .arities)) → ((C : Clause) → List·Memᴰ C (F .input) → True whole (F .arities) I C) → ⊥)
+RefutedHasNoModel = (N : Numbers) (J : Judge) → SoundJudge N J → (s w v : List ℕ) → Printed J lastLine s w → w ≡ v ++ bytes "refuted\n"
+    → (F : File) × (file s ≡ got F (length s)) × NoModel N F
+
+-- ---- of the rules over the whole numbers
+
+-- They are such a judge in each respect: they answer all steps, none in two ways, modestly and soundly. Their soundness is demand 2.
+abbrev pub PlainJudge : Type 1
+PlainJudge = AnswersAll (plain whole) × AnswersOnce (plain whole) × Modest (plain whole) × SoundJudge whole (plain whole)
 
 -- ---- demand 1: "Whatever run file or step is offered, the tool ends with a right result or a numbered refusal from its table."
 
@@ -46,7 +68,7 @@ EveryFileAnswered = (s : List ℕ) → Outcome s (file s) × ((w : List ℕ) × 
 -- Of a step, at any state reached: there is an answer, accepted or with a number of the table, and "a refused step hands back the state it
 -- was given, unchanged".
 abbrev pub EveryStepAnswered : Type 0
-EveryStepAnswered = (s : State) (x : Step) → Reached s
+EveryStepAnswered = (s : State) (x : Step) → Reached (plain whole) s
     → (a : Answer) × Judged whole s x a × (a .number ≤ noRoom) × (¬ (a .number ≡ accepted) → a .state ≡ s)
 
 abbrev pub Demand1 : Type 0

@@ -20,7 +20,7 @@ use Rattle.lists.proofs.Members.{allOf-out}
 use Rattle.lists.proofs.Tests.{and-i, and-l, and-r}
 use Rattle.lists.specs.Lists.{allOf, sameList}
 use Rattle.runfile.specs.Claims.{ReadBack, Sayable, StepHeld}
-use Rattle.runfile.specs.File.{count, clause, instance, File, argument, atom, byte, classChecks, clause, constant, file, header, instance, letters, literal, littleEndian, mostSteps, number, ruled, signed, step, within}
+use Rattle.runfile.specs.File.{count, clause, instance, File, argument, atom, byte, classChecks, clause, constant, file, header, instance, letters, literal, littleEndian, mostSteps, number, ruled, signedOf, step, within}
 use Rattle.runfile.specs.Readers.{Reader, _judged_, _then_, bad, field, give, got, onward, times}
 use Rattle.runfile.specs.Written.{bytesOf, joined, unsigned, written, writtenAtom, writtenClause, writtenHeader, writtenInstance, writtenLiteral, writtenStep}
 use Rattle.calculus.proofs.Admitting.{clause-accepted-exactly}
@@ -108,7 +108,7 @@ back-4 w h = omega arith
 back-2 : (w : ℕ) → w < 65536 → littleEndian (bytesOf 2 w) ≡ w
 back-2 w h = omega arith
 
-signed-back : (c : ℤ) → T (inRange c) → (signed (unsigned c) ≡ c) × (unsigned c < 4294967296)
+signed-back : (c : ℤ) → T (inRange c) → (signedOf (unsigned c) ≡ c) × (unsigned c < 4294967296)
 signed-back (pos n) h =
     let k = leb→le n mostC h in
     (rw (lt-ltb n 2147483648 (omega arith)), omega arith)
@@ -121,7 +121,7 @@ back-constant : (c : ℤ) → T (inRange c) → Back constant (bytesOf 4 (unsign
 back-constant c h =
     let k = signed-back c h in
     back-judged (λ z. inRange z or outOfRange ∷ [])
-    (rw (k .0) at (back-last signed (back-number (bytesOf 4 (unsigned c)) (unsigned c) (omega arith) (back-4 (unsigned c) (k .1))))) (h, tt)
+    (rw (k .0) at (back-last signedOf (back-number (bytesOf 4 (unsigned c)) (unsigned c) (omega arith) (back-4 (unsigned c) (k .1))))) (h, tt)
 
 back-atom : (v : ℕ) (a : Atom) → T (properAtom v a) → Back (atom v) (writtenAtom a) a
 unfolding atom

@@ -16,7 +16,7 @@ use Rattle.lists.proofs.Members.{allOf-in}
 use Rattle.lists.proofs.Tests.{T→eq, and-i, and-l, and-r}
 use Rattle.lists.specs.Lists.{allOf, sameList}
 use Rattle.runfile.specs.Claims.{EveryFile, Outcome, Refusal, Sayable, StepHeld}
-use Rattle.runfile.specs.File.{count, File, Header, argument, atom, byte, classChecks, clause, clauseFields, constant, end, file, header, instance, letters, literal, littleEndian, mark, mostSteps, number, ruled, second, signed, step, version, within}
+use Rattle.runfile.specs.File.{count, File, Header, argument, atom, byte, classChecks, clause, clauseFields, constant, end, file, header, instance, letters, literal, littleEndian, mark, mostSteps, number, ruled, second, signedOf, step, version, within}
 use Rattle.runfile.specs.Readers.{Got, Reader, _judged_, _then_, bad, field, give, got, onward, times}
 use Rattle.calculus.proofs.Admitting.{clause-accepted-exactly}
 use Rattle.calculus.specs.Admission.{Admitted, fresh}
@@ -148,7 +148,7 @@ abbrev pub inRange : ℤ → Bool
 inRange c = leZ (negℤ (pos mostC)) c && leZ c (pos mostC)
 
 constant-reads : Reads (λ c. T (inRange c)) constant
-constant-reads = reads-weaker (reads-judged (λ c. inRange c or outOfRange ∷ []) (λ c. tt) (reads-give {Q = λ c. Unit {0}} signed (number-reads 4) (λ w h. tt))) (λ c h. h .1 .0)
+constant-reads = reads-weaker (reads-judged (λ c. inRange c or outOfRange ∷ []) (λ c. tt) (reads-give {Q = λ c. Unit {0}} signedOf (number-reads 4) (λ w h. tt))) (λ c h. h .1 .0)
 
 atom-reads : (v : ℕ) → Reads (λ a. T (properAtom v a)) (atom v)
 unfolding atom

@@ -44,12 +44,12 @@ within least most = byte judged λ n. between least most n or outOfRange ∷ []
 -- ---- clauses
 
 -- "c is a signed 32-bit number": its four bytes as two's complement
-abbrev pub signed : ℕ → ℤ
-signed w = cond (ltb w 2147483648) (pos w) (negsuc (4294967295 - w))
+abbrev pub signedOf : ℕ → ℤ
+signedOf w = cond (ltb w 2147483648) (pos w) (negsuc (4294967295 - w))
 
 -- ".. from −1,000,000 to 1,000,000"
 abbrev pub constant : Reader ℤ
-constant = (number 4 then λ w. give (signed w)) judged λ c. (leZ (negℤ (pos mostC)) c && leZ c (pos mostC)) or outOfRange ∷ []
+constant = (number 4 then λ w. give (signedOf w)) judged λ c. (leZ (negℤ (pos mostC)) c && leZ c (pos mostC)) or outOfRange ∷ []
 
 -- "For both places 0 the field is q."
 abbrev pub second : ℕ → ℕ → Reader ℕ

@@ -12,7 +12,7 @@ use mir.Syntax.{w32, w64}
 use mir.Val.{toZ, ofZ, Fits, SFits}
 use mir.Facts.{fits-natAbs, sfits-widen, toZ-ofZ}
 use Rattle.integers.proofs.Order.{ltZ-true, ltZ-false}
-use Rattle.text.specs.Text.{bytes, decimal, signed}
+use Rattle.text.specs.Text.{bytes, decimal, signedText}
 use Rattle.text.proofs.Text.{length-decimal}
 
 -- The text of a number n of 32 bits, by the machine's test; m is its size.
@@ -20,17 +20,17 @@ module _ {n : ℤ} {m : ℕ} (h : SFits w32 n) (size : m ≡ natAbs (toZ w32 (of
   size-is : m ≡ natAbs n
   size-is = size ∙ ap natAbs (toZ-ofZ h)
 
-  pub below-text : ltZ (toZ w32 (ofZ w32 n)) (pos 0) ≡ true → bytes "-" ++ decimal m ≡ signed n
+  pub below-text : ltZ (toZ w32 (ofZ w32 n)) (pos 0) ≡ true → bytes "-" ++ decimal m ≡ signedText n
   below-text e = ap (λ (k : ℕ). bytes "-" ++ decimal k) size-is ∙ go n (ltZ-true (subst (λ (z : ℤ). ltZ z (pos 0) ≡ true) (toZ-ofZ h) e))
     where
-      go : (n : ℤ) → n <ℤ pos 0 → bytes "-" ++ decimal (natAbs n) ≡ signed n
+      go : (n : ℤ) → n <ℤ pos 0 → bytes "-" ++ decimal (natAbs n) ≡ signedText n
       go (pos n) h = absurd (omega (arith, ltb→lt n 0 (h .lt)))
       go (negsuc n) h = refl
 
-  pub above-text : ltZ (toZ w32 (ofZ w32 n)) (pos 0) ≡ false → decimal m ≡ signed n
+  pub above-text : ltZ (toZ w32 (ofZ w32 n)) (pos 0) ≡ false → decimal m ≡ signedText n
   above-text e = ap decimal size-is ∙ go n (ltZ-false (subst (λ (z : ℤ). ltZ z (pos 0) ≡ false) (toZ-ofZ h) e))
     where
-      go : (n : ℤ) → pos 0 ≤ℤ n → decimal (natAbs n) ≡ signed n
+      go : (n : ℤ) → pos 0 ≤ℤ n → decimal (natAbs n) ≡ signedText n
       go (pos n) h = refl
       go (negsuc n) h = absurd (h .le)
 
@@ -77,10 +77,10 @@ module _ {n : ℤ} (h : SFits w32 n) where
       go (negsuc n) k = tt
 
 -- A sign and at most ten digits
-pub length-signed : {n : ℤ} → SFits w32 n → length (signed n) ≤ 11
+pub length-signed : {n : ℤ} → SFits w32 n → length (signedText n) ≤ 11
 length-signed {n = pos n} h = omega (arith, length-decimal 9 n (omega (arith, h .sfits)))
 length-signed {n = negsuc n} h = omega (arith, length-decimal 9 (suc n) (omega (arith, h .sfits)))
 
 -- .. also as the machine reads it
-pub length-read : {n : ℤ} → SFits w32 n → length (signed (toZ w32 (ofZ w32 n))) ≤ 11
+pub length-read : {n : ℤ} → SFits w32 n → length (signedText (toZ w32 (ofZ w32 n))) ≤ 11
 length-read h = rw (toZ-ofZ h) (length-signed h)

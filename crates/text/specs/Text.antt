@@ -30,9 +30,9 @@ unfoldable pub decimal : ℕ → List ℕ
 decimal n = decimalIn n n
 
 -- A whole number in decimal digits, with a minus sign before one below zero
-abbrev pub signed : ℤ → List ℕ
-signed (pos n) = decimal n
-signed (negsuc n) = bytes "-" ++ decimal (suc n)
+abbrev pub signedText : ℤ → List ℕ
+signedText (pos n) = decimal n
+signedText (negsuc n) = bytes "-" ++ decimal (suc n)
 
 -- What a writer leaves of the buffer d: the bytes w from i on, all others as they were. It answers the place after them.
 pub record Wrote (d : List ℕ) (i : ℕ) (w d′ : List ℕ) (r : ℕ) : Type 0 where

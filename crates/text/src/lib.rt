@@ -4,7 +4,7 @@ ghost use mathlib.Core.List.{[], _∷_};
 ghost use Prim.Native.Nat.{_+_, _≤_, _<_};
 ghost use lib.ListN.{length};
 ghost use lib.IntN.{natAbs};
-ghost use Rattle.text.specs.Text.{Wrote, decimal, signed};
+ghost use Rattle.text.specs.Text.{Wrote, decimal, signedText};
 ghost use Rattle.text.specs.Text as text;
 
 pub fn put_byte(out: &mut [u8], at: usize, b: u8) -> usize
@@ -59,8 +59,8 @@ fn size(n: i32) -> usize
 
 // A number with its sign
 pub fn put_signed(out: &mut [u8], at: usize, n: i32) -> usize
-    requires { ⌜ at + length (signed n) ≤ length (now out) ⌝ }
-    ensures { λ r. ⌜ Wrote (now (out .entry)) at (signed n) (now (out .exit)) r ⌝ }
+    requires { ⌜ at + length (signedText n) ≤ length (now out) ⌝ }
+    ensures { λ r. ⌜ Wrote (now (out .entry)) at (signedText n) (now (out .exit)) r ⌝ }
 {
     if n < 0 {
         let next = put_byte(out, at, b'-');
