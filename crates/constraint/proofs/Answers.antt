@@ -46,7 +46,7 @@ module _ (constants count : ℕ) (atoms : List Atom) (A : Accepted constants cou
   in-order : Ordered constants (near .0)
   in-order = (
     (λ i j hi hj. near .1 .near i j),
-    λ j a b. near .1 .kept j (suc j) (negsuc 0) (omega (arith, A .counted .few-constants)) (omega (arith, A .counted .few-constants)) (record { above = omega arith; below = omega arith })
+    λ j a b. near .1 .kept j (suc j) (negsuc 0) (omega (arith, A .few-enough .few-constants)) (omega (arith, A .few-enough .few-constants)) (record { above = omega arith; below = omega arith })
         (by-order (P .value j) (P .value (suc j)) (P .rising j a b)),
   )
 

@@ -2,7 +2,7 @@
 pub mod Unique
 pub mod Sums
 pub mod Stands
-pub mod Bare
+pub mod Start
 pub mod Steps
 pub mod Answers
 pub mod Refusals

@@ -8,7 +8,7 @@ use Rattle.basis.specs.declared.Atom.{Atom}
 use Rattle.basis.specs.Refusals.{outOfRange}
 use Rattle.basis.specs.Atoms.{InRange, Proper}
 use Rattle.lists.specs.Tests.{Decides}
-use Rattle.constraint.specs.Test.{Counted, Accepted, Refusal, atomAt}
+use Rattle.constraint.specs.Test.{FewEnough, Accepted, Refusal, atomAt}
 use Rattle.constraint.specs.Square.{FirstImproper}
 
 -- Where the places are right, the range decides.
@@ -24,10 +24,10 @@ pub improper-most : (constants count : ℕ) (atoms : List Atom) (r : ℕ) → Fi
 improper-most constants count atoms zero h = omega arith
 improper-most constants count atoms (suc k) h = h .0
 
-pub refused : (constants count : ℕ) (atoms : List Atom) (r : ℕ) → Counted constants count → 0 < r → FirstImproper constants count atoms r → Refusal constants count atoms outOfRange r
+pub refused : (constants count : ℕ) (atoms : List Atom) (r : ℕ) → FewEnough constants count → 0 < r → FirstImproper constants count atoms r → Refusal constants count atoms outOfRange r
 refused constants count atoms zero C z h = absurd (omega arith)
 refused constants count atoms (suc k) C z h = Refusal.improper k C (h .0) (h .1) (h .2)
 
-pub accepted : (constants count : ℕ) (atoms : List Atom) (r : ℕ) → Counted constants count → r ≤ 0 → FirstImproper constants count atoms r → Accepted constants count atoms
-accepted constants count atoms zero C z h = record { counted = C; proper = h }
+pub accepted : (constants count : ℕ) (atoms : List Atom) (r : ℕ) → FewEnough constants count → r ≤ 0 → FirstImproper constants count atoms r → Accepted constants count atoms
+accepted constants count atoms zero C z h = record { few-enough = C; proper = h }
 accepted constants count atoms (suc k) C z h = absurd (omega arith)

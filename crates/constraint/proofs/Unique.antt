@@ -10,7 +10,7 @@ use Rattle.constraint.specs.declared.Answer.the-variants.{Yes, No, Refus
 
 -- What is accepted is not refused.
 apart : (n count : ℕ) (atoms : List Atom) (a b : ℕ) → Refusal n count atoms a b → Accepted n count atoms → ⊥
-apart n count atoms a b (Refusal.too-many h) A = h (A .counted)
+apart n count atoms a b (Refusal.too-many h) A = h (A .few-enough)
 apart n count atoms a b (Refusal.improper k h i f g) A = g (A .proper k i)
 
 -- The first improper atom is one.

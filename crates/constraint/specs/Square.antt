@@ -1,10 +1,12 @@
 -- The square of 17 by 17 bounds that the test works on, what the private functions do to it, and that no sum of bounds overflows.
 -- The promise is in Test and needs nothing of this.
+use mathlib.Core.Bool.{cond, _&&_}
 use mathlib.Core.List.{List, []}
 use mathlib.Core.Logic.{_↔_}
-use Prim.Native.Nat.{ℕ, zero, suc, _+_, _*_, _≤_, _<_}
+use Prim.Native.Nat.{ℕ, zero, suc, _+_, _-_, _*_, _≤_, _<_}
+use lib.Dec.{eqb, leb, ltb}
 use lib.ListN.{getD}
-use lib.IntN.{ℤ, pos, negsuc, _+ℤ_}
+use lib.IntN.{ℤ, pos, negsuc, _+ℤ_, _-ℤ_}
 use mir.Syntax.{w64}
 use mir.Val.{SFits}
 use Rattle.basis.specs.declared.Atom.{Atom}
@@ -55,9 +57,20 @@ pub record Stands (Q : (ℕ → ℤ) → Type 0) (t : List (List ℤ)) : Type 0 
 abbrev pub Near : (ℕ → ℤ) → Type 0
 Near v = (i j : ℕ) → i < places → j < places → Keeps wholeBounds v i j (pos far)
 
--- b1 < b2 < .. as far as the constant i, as bounds: value j - value (j + 1) ≤ -1.
+-- b1 < b2 < .. as far as the last constant, as bounds: value j - value (j + 1) ≤ -1.
 abbrev pub Ordered : ℕ → (ℕ → ℤ) → Type 0
-Ordered i v = Near v × ((j : ℕ) → 1 ≤ j → j < i → Keeps wholeBounds v j (suc j) (negsuc 0))
+Ordered constants v = Near v × ((j : ℕ) → 1 ≤ j → j < constants → Keeps wholeBounds v j (suc j) (negsuc 0))
+
+-- How many constants stand after the place i in the order, and how many before j: none for zero and for a place past the constants.
+abbrev pub standAfter : ℕ → ℕ → ℕ
+standAfter constants i = cond (leb 1 i) (constants - i) 0
+
+abbrev pub standBefore : ℕ → ℕ → ℕ
+standBefore constants j = cond (leb j constants) (j - 1) 0
+
+-- The bound at i and j by the order alone: i - j where bi < .. < bj; else far, less the steps from i to the last constant and from the first to j.
+unfoldable pub byOrder : ℕ → ℕ → ℕ → ℤ
+byOrder constants i j = cond (eqb i j) (pos 0) (cond (leb 1 i && ltb i j && leb j constants) (pos i -ℤ pos j) (pos far -ℤ pos (standAfter constants i + standBefore constants j)))
 
 -- The atom at k, as a bound.
 abbrev pub Meets : List Atom → (ℕ → ℤ) → ℕ → Type 0

@@ -16,20 +16,20 @@ abbrev pub atomAt : List Atom → ℕ → Atom
 atomAt atoms k = getD atoms k noAtom
 
 -- Handed at most 16 constants and 184 atoms, ..
-pub record Counted (constants count : ℕ) : Type 0 where
+pub record FewEnough (constants count : ℕ) : Type 0 where
   pub few-constants : constants ≤ mostConstants
   pub few-atoms : count ≤ mostTested
 
 -- .. each with places among the constants, not both 0, and c in range.
 pub record Accepted (constants count : ℕ) (atoms : List Atom) : Type 0 where
-  pub counted : Counted constants count
+  pub few-enough : FewEnough constants count
   pub proper : (k : ℕ) → k < count → Proper constants (atomAt atoms k)
 
 -- "Handed more than 16 constants or 184 atoms it refuses by 3, place 0; then an atom with a place above the constants, both places 0 or
 -- c out of range by 4, the place being the atom's number": that of the first such atom.
 pub data Refusal (constants count : ℕ) (atoms : List Atom) : ℕ → ℕ → Type 0 where
-  too-many : ¬ Counted constants count → Refusal constants count atoms aboveLimit 0
-  improper : (k : ℕ) → Counted constants count → k < count → ((j : ℕ) → j < k → Proper constants (atomAt atoms j)) → ¬ Proper constants (atomAt atoms k)
+  too-many : ¬ FewEnough constants count → Refusal constants count atoms aboveLimit 0
+  improper : (k : ℕ) → FewEnough constants count → k < count → ((j : ℕ) → j < k → Proper constants (atomAt atoms j)) → ¬ Proper constants (atomAt atoms k)
       → Refusal constants count atoms outOfRange (suc k)
 
 -- What each answer says of the constants and the first `count` atoms.

@@ -1,5 +1,5 @@
-// The constraint test. It works on a square of bounds between every two of 17 places, closed after each bound that is put in:
-// the order of the constants first, then the atoms one by one, until one closes a chain below zero or all are in.
+// The constraint test. It works on a square of bounds between every two of 17 places: that of the constants' order, into which the atoms
+// are put one by one, closed after each, until one closes a chain below zero or all are in.
 ghost use mathlib.Core.Path.{_≡_};
 ghost use Prim.Native.Nat.{ℕ, _<_, _≤_};
 ghost use lib.ListN.{take};
@@ -11,9 +11,9 @@ ghost use Rattle.basis.specs.Atoms.{InRange, Proper, Possible};
 ghost use Rattle.lists.specs.Tests.{Decides};
 ghost use Rattle.integers.specs.Sides.{Within};
 ghost use Rattle.bounds.specs.Whole.{wholeBounds};
-ghost use Rattle.bounds.specs.Squares.{lower, put};
+ghost use Rattle.bounds.specs.Squares.{lower};
 ghost use Rattle.constraint.specs.Test.{Accepted, Says};
-ghost use Rattle.constraint.specs.Square.{places, mostBound, far, mostChain, at, entry, Sound, Stands, Near, Ordered, FirstImproper};
+ghost use Rattle.constraint.specs.Square.{places, mostBound, far, mostChain, at, Stands, Ordered, standAfter, standBefore, byOrder, FirstImproper};
 use basis::ABOVE_LIMIT;
 use basis::Atom;
 use basis::MOST_C;
@@ -59,35 +59,58 @@ fn lowered_row(row: [i64; PLACES], via: [i64; PLACES], start: i64) -> [i64; PLAC
     out
 }
 
-// The square with value p - value q at most c put in. A row to which nothing lower comes at q stays as it is.
-fn put_bound(mut t: [[i64; PLACES]; PLACES], p: usize, q: usize, c: i64) -> [[i64; PLACES]; PLACES]
-    requires { ⌜ (p < places) × (q < places) × Within mostBound c × Sound t ⌝ }
-    ensures { λ r. ⌜ ((i j : ℕ) → i < places → j < places → entry r i j ≡ put wholeBounds (entry t) p q c i j) ⌝ }
+// How many constants stand after the place i in the order.
+fn stand_after(constants: usize, i: usize) -> usize
+    ensures { λ r. ⌜ r ≡ standAfter constants i ⌝ }
 {
-    let via = t[q];
-    let mut i = 0;
-    while i < PLACES {
-        let start = t[i][p] + c;
-        if start < t[i][q] {
-            let row = t[i];
-            t[i] = lowered_row(row, via, start);
-        }
-        i += 1;
+    if i < 1 {
+        return 0;
     }
-    t
+    if constants < i {
+        return 0;
+    }
+    constants - i
 }
 
-// The square of no order and no atoms: no two values further apart than FAR.
-fn bare_square() -> [[i64; PLACES]; PLACES]
-    ensures { λ r. ⌜ Stands Near r ⌝ }
+// How many constants stand before the place j.
+fn stand_before(constants: usize, j: usize) -> usize
+    ensures { λ r. ⌜ r ≡ standBefore constants j ⌝ }
 {
-    let mut t = [[FAR; PLACES]; PLACES];
-    let mut i = 0;
-    while i < PLACES {
-        t[i][i] = 0;
-        i += 1;
+    if constants < j {
+        return 0;
     }
-    t
+    if j < 1 {
+        return 0;
+    }
+    j - 1
+}
+
+// The bound at i and j by the constants' order alone.
+fn by_order(constants: usize, i: usize, j: usize) -> i64
+    requires { ⌜ (constants ≤ mostConstants) × (i < places) × (j < places) ⌝ }
+    ensures { λ r. ⌜ r ≡ byOrder constants i j ⌝ }
+{
+    if i == j {
+        return 0;
+    }
+    if 0 < i && i < j && j <= constants {
+        return i as i64 - j as i64;
+    }
+    FAR - (stand_after(constants, i) + stand_before(constants, j)) as i64
+}
+
+// The bounds of the row i by the order alone.
+fn ordered_row(constants: usize, i: usize) -> [i64; PLACES]
+    requires { ⌜ (constants ≤ mostConstants) × (i < places) ⌝ }
+    ensures { λ r. ⌜ ((j : ℕ) → j < places → at r j ≡ byOrder constants i j) ⌝ }
+{
+    let mut row = [0i64; PLACES];
+    let mut j = 0;
+    while j < PLACES {
+        row[j] = by_order(constants, i, j);
+        j += 1;
+    }
+    row
 }
 
 // The square of the constants' order.
@@ -95,11 +118,10 @@ fn ordered(constants: usize) -> [[i64; PLACES]; PLACES]
     requires { ⌜ constants ≤ mostConstants ⌝ }
     ensures { λ r. ⌜ Stands (Ordered constants) r ⌝ }
 {
-    let mut t = bare_square();
-    let mut i = 1;
-    while i < constants {
-        let next = put_bound(t, i, i + 1, -1);
-        t = next;
+    let mut t = [[0i64; PLACES]; PLACES];
+    let mut i = 0;
+    while i < PLACES {
+        t[i] = ordered_row(constants, i);
         i += 1;
     }
     t
@@ -120,7 +142,8 @@ fn below_zero(c: i64, back: i64) -> bool
     c + back < 0
 }
 
-// Whether the order and the first `count` atoms can be kept.
+// Whether the order and the first `count` atoms can be kept. Each atom is put in: a row to which nothing lower comes at q stays as it is.
+// The square is changed in place, so the loop over its rows stands within that over the atoms.
 fn kept(constants: usize, count: usize, atoms: [Atom; MOST_TESTED]) -> bool
     requires { ⌜ Accepted constants count atoms ⌝ }
     ensures { λ r. ⌜ Decides (Possible whole constants (take count atoms)) r ⌝ }
@@ -137,8 +160,16 @@ fn kept(constants: usize, count: usize, atoms: [Atom; MOST_TESTED]) -> bool
             return false;
         }
         if c < t[p][q] {
-            let tighter = put_bound(t, p, q, c);
-            t = tighter;
+            let via = t[q];
+            let mut i = 0;
+            while i < PLACES {
+                let start = t[i][p] + c;
+                if start < t[i][q] {
+                    let row = t[i];
+                    t[i] = lowered_row(row, via, start);
+                }
+                i += 1;
+            }
         }
         k += 1;
     }

@@ -50,7 +50,7 @@ fn small(line: Line) -> u8 {
 }
 
 // The number that was read, with its sign.
-fn signed(line: Line) -> i32 {
+fn with_sign(line: Line) -> i32 {
     let size = (line.value % 2147483648) as i32;
     if line.negative { -size } else { size }
 }
@@ -89,7 +89,7 @@ fn told(line: Line) -> Line {
         let a = Atom {
             p: line.p,
             q: line.q,
-            c: signed(line),
+            c: with_sign(line),
         };
         return added(next, a);
     }

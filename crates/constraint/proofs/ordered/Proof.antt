@@ -1,32 +1,34 @@
--- Before the turn of i the square stands for the order as far as the constant i.
-use Prim.Native.Nat.{_-_, _≤_, max}
+-- After i turns the first i rows are the order's.
+use mathlib.Core.Path.{_≡_}
+use mathlib.Core.List.{[]}
+use Prim.Native.Nat.{ℕ, _-_, _≤_, _<_}
 use native.Mathlib.Omega.{arith}
+use lib.ListN.{length}
 use borrow.Author.Needs.{needs}
-use Rattle.basis.specs.Limits.{mostConstants}
-use Rattle.constraint.specs.Square.{Stands, Ordered}
-use Rattle.constraint.proofs.Steps.{order-none, order-more, order-all}
+use Rattle.lists.specs.Walk.{Upto}
+use Rattle.lists.proofs.Walk.{upto-none, upto-set}
+use Rattle.constraint.specs.Square.{places, at, byOrder}
+use Rattle.constraint.proofs.Start.{order-stands}
 use Rattle.constraint.proofs.ordered.Statement.{statement}
 use Rattle.constraint.proofs.ordered.Tie as tie
 
--- Before the turn of i the square stands for the order as far as the constant i.
-
 abbrev Inv-loop : tie.InvT-loop
-Inv-loop constants t₀ i₀ t i = (1 ≤ i) × (i ≤ max constants 1) × (constants ≤ mostConstants) × Stands (Ordered i) t
+Inv-loop constants t₀ i₀ t i = (i ≤ places) × (length t₀ ≡ places) × Upto [] (λ k row. (j : ℕ) → j < places → at row j ≡ byOrder constants k j) t₀ t i
 
 abbrev μ-loop : tie.MeasureT-loop
-μ-loop constants t₀ i₀ t i = constants - i
-
-bare-square-requires : tie.Need-bare-square-requires Inv-loop μ-loop
-bare-square-requires c κs = search needs
+μ-loop constants t₀ i₀ t i = places - i
 
 loop-holds : tie.Need-loop-holds Inv-loop μ-loop
-loop-holds c = (omega arith, omega arith, search needs, order-none _ (c .bare-square .ensures))
+loop-holds c = (omega arith, search needs, upto-none [] _ _)
 
-add-put-bound : tie.Need-add-put-bound Inv-loop μ-loop
-add-put-bound c = search needs
+ordered-row-requires : tie.Need-ordered-row-requires Inv-loop μ-loop
+ordered-row-requires c κs = (search needs, search needs)
 
-put-bound-requires : tie.Need-put-bound-requires Inv-loop μ-loop
-put-bound-requires c κs = (search needs, search needs, record { above = omega arith; below = omega arith }, c .before .loop .inv .3 .sound)
+mul-t : tie.Need-mul-t Inv-loop μ-loop
+mul-t c = search needs
+
+array-set-from-t : tie.Need-array-set-from-t Inv-loop μ-loop
+array-set-from-t c = search needs
 
 add-i : tie.Need-add-i Inv-loop μ-loop
 add-i c = search needs
@@ -35,10 +37,10 @@ loop-less : tie.Need-loop-less Inv-loop μ-loop
 loop-less c = search needs
 
 loop-again : tie.Need-loop-again Inv-loop μ-loop
-loop-again c = (omega arith, omega arith, search needs, order-more (c .before .before .loop .t) _ (c .before .before .loop .i) (c .before .before .loop .inv .3) (omega arith) (search needs) (c .put-bound .ensures))
+loop-again c = (omega arith, c .before .before .loop .inv .1, upto-set [] _ (c .before .before .loop .inv .2) (omega arith) (c .ordered-row .ensures))
 
 returns : tie.Need-returns Inv-loop μ-loop
-returns c = order-all _ (c .before .loop .i) _ (search needs) (search needs) (c .before .loop .inv .3)
+returns c = order-stands _ (search needs) _ (λ i j hi hj. c .before .loop .inv .2 .done i (omega arith) j hj)
 
 pub ordered-spec : {M : Type 1} → statement M
 ordered-spec =
@@ -46,10 +48,10 @@ ordered-spec =
     (tie.spec
     Inv-loop
     μ-loop
-    bare-square-requires
     loop-holds
-    add-put-bound
-    put-bound-requires
+    ordered-row-requires
+    mul-t
+    array-set-from-t
     add-i
     loop-less
     loop-again

@@ -8,8 +8,8 @@ use mir.Facts.{toZ-pos}
 use borrow.Author.Needs.{needs}
 use Rattle.integers.proofs.Linear.{sum, negated}
 use Rattle.integers.proofs.Machine.{fits-of}
-use Rattle.constraint_cases.proofs.signed.Statement.{statement}
-use Rattle.constraint_cases.proofs.signed.Tie as tie
+use Rattle.constraint_cases.proofs.with_sign.Statement.{statement}
+use Rattle.constraint_cases.proofs.with_sign.Tie as tie
 
 negative-fits : (n : ℕ) → n < 2147483648 → SFits w32 (pos 0 -ℤ toZ w32 n)
 negative-fits n h = rw (toZ-pos w32 h) (fits-of w32 {m = n} (record { above = omega (arith, sum (pos 0) (negℤ (pos n)), negated (pos n)); below = omega (arith, sum (pos 0) (negℤ (pos n)), negated (pos n)) }) h)
@@ -26,5 +26,5 @@ returns c = search needs
 returns-2 : tie.Need-returns-2
 returns-2 c = search needs
 
-pub signed-spec : {M : Type 1} → statement M
-signed-spec = tie.close (tie.spec cast-size sub-result returns returns-2)
+pub with-sign-spec : {M : Type 1} → statement M
+with-sign-spec = tie.close (tie.spec cast-size sub-result returns returns-2)
