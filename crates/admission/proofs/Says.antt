@@ -17,7 +17,7 @@ use Rattle.calculus.specs.Admission.{countsFit, clausesRefusal}
 use Rattle.calculus.proofs.Admitting.{clause-accepted-exactly}
 use Rattle.clauses.specs.Records.{clauseOf, packed}
 use Rattle.clauses.proofs.Records.{packed-says}
-use Rattle.admission.specs.Offered.{offered, packedTable, clauseAnswer, answered, ClauseSays, TableSays}
+use Rattle.admission.specs.Offered.{offered, packedInput, clauseAnswer, answered, ClauseSays, TableSays}
 use Rattle.admission.proofs.Tables.{blank}
 
 -- A clause that is not refused is within the limits, so its record says it.
@@ -52,14 +52,14 @@ pub table-says : TableSays
 unfolding answered
 table-says constants A cs e = go (countsFit constants A cs) refl e
   where
-    held : length cs ≤ mostInput → take (length cs) (packedTable cs) ≡ map packed cs
+    held : length cs ≤ mostInput → take (length cs) (packedInput cs) ≡ map packed cs
     held h =
         let n = length-map cs packed in
-        ap (λ (k : ℕ). take k (packedTable cs)) (sym n) ∙ take-exactly blank mostInput (map packed cs) (omega arith)
+        ap (λ (k : ℕ). take k (packedInput cs)) (sym n) ∙ take-exactly blank mostInput (map packed cs) (omega arith)
 
     go : (b : Bool) → countsFit constants A cs ≡ b → answered (cond b (clausesRefusal A 1 cs) (record { number = aboveLimit; place = 0 })) cs .number ≡ accepted →
         map clauseOf (take (length cs) (answered (cond b (clausesRefusal A 1 cs) (record { number = aboveLimit; place = 0 })) cs .clauses)) ≡ cs
     go true t h =
-        ap (λ (b : Bool). map clauseOf (take (length cs) (cond b (packedTable cs) (packedTable [])))) (eq-eqb (clausesRefusal A 1 cs .number) accepted h)
+        ap (λ (b : Bool). map clauseOf (take (length cs) (cond b (packedInput cs) (packedInput [])))) (eq-eqb (clausesRefusal A 1 cs .number) accepted h)
         ∙ ap (map clauseOf) (held (few constants A cs t)) ∙ all-say A 1 cs h
     go false t h = absurd (omega arith)

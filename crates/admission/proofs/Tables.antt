@@ -21,7 +21,7 @@ use Rattle.clauses.specs.declared.Clause.{Clause}
 use Rattle.clauses.specs.Records.{packed}
 use Rattle.admission.specs.declared.ClauseAnswer.{ClauseAnswer}
 use Rattle.admission.specs.declared.TableAnswer.{TableAnswer}
-use Rattle.admission.specs.Offered.{offeredArities, offered, offeredTable, packedTable, tableFits, clauseAnswer, answered, tableAnswer}
+use Rattle.admission.specs.Offered.{offeredArities, offered, offeredTable, packedInput, tableFits, clauseAnswer, answered, tableAnswer}
 use Rattle.calculus.specs.Clauses as calculus
 
 -- ---- one answer taken apart
@@ -80,7 +80,7 @@ module _ (A : List ℕ) (n : ℕ) (l : List Clause) (h : n ≤ length l) where
   table-is = ap (map (offered A)) (exactly-take blank n l h)
 
   pub table-refused : (j : ℕ) {a : ClauseAnswer} {r : TableAnswer} → j < n → clausesRefusal A 1 (map (offered A) (take j l)) ≡ noRefusal → a ≡ clauseAnswer A (getD l j pastTable) → (a .number ≡ accepted → ⊥) →
-      r ≡ record { number = a .number; place = j + 1; clauses = packedTable [] } → r ≡ answered (clausesRefusal A 1 (offeredTable A n l)) (offeredTable A n l)
+      r ≡ record { number = a .number; place = j + 1; clauses = packedInput [] } → r ≡ answered (clausesRefusal A 1 (offeredTable A n l)) (offeredTable A n l)
   unfolding answered
   table-refused j {a} k ok ea bad er =
       let C = offered A (getD l j pastTable) in
@@ -92,8 +92,8 @@ module _ (A : List ℕ) (n : ℕ) (l : List Clause) (h : n ≤ length l) where
       let first = ap (clausesRefusal A 1) seen ∙ clauses-first A 1 (map (offered A) (take j l)) C (map (offered A) (drop (suc j) (take n l))) ok (λ e. bad (number ∙ e)) in
       let place : j + 1 ≡ 1 + length (map (offered A) (take j l)) = omega (arith, length-map (take j l) (offered A), length-take j l) in
       let whole : clausesRefusal A 1 (offeredTable A n l) ≡ record { number = a .number; place = j + 1 } = first ∙ ap₂ (λ (x y : ℕ). record { number = x; place = y }) (sym number) (sym place) in
-      er ∙ sym (ap (λ (r : Refused). record { number = r .number; place = r .place; clauses = cond (eqb (r .number) accepted) (packedTable (offeredTable A n l)) (packedTable []) }) whole
-      ∙ ap (λ (b : Bool). record { number = a .number; place = j + 1; clauses = cond b (packedTable (offeredTable A n l)) (packedTable []) }) (ne-eqb (a .number) accepted bad))
+      er ∙ sym (ap (λ (r : Refused). record { number = r .number; place = r .place; clauses = cond (eqb (r .number) accepted) (packedInput (offeredTable A n l)) (packedInput []) }) whole
+      ∙ ap (λ (b : Bool). record { number = a .number; place = j + 1; clauses = cond b (packedInput (offeredTable A n l)) (packedInput []) }) (ne-eqb (a .number) accepted bad))
 
   pub table-turn : (j : ℕ) {a : ClauseAnswer} → j < length l → clausesRefusal A 1 (map (offered A) (take j l)) ≡ noRefusal → a ≡ clauseAnswer A (getD l j pastTable) → a .number ≡ accepted →
       clausesRefusal A 1 (map (offered A) (take (j + 1) l)) ≡ noRefusal
@@ -107,7 +107,7 @@ module _ (A : List ℕ) (n : ℕ) (l : List Clause) (h : n ≤ length l) where
       let ok′ : clausesRefusal A 1 (offeredTable A n l) ≡ noRefusal = ap (clausesRefusal A 1) table-is ∙ ok in
       let held = eo ∙ ap (exactly mostInput blank) (sym (map-map packed (offered A) (take n l)) ∙ ap (map packed) (sym table-is)) in
       ap {B = TableAnswer} (λ (o : List Clause). record { number = accepted; place = zero; clauses = o }) held
-      ∙ sym (ap (λ (r : Refused). record { number = r .number; place = r .place; clauses = cond (eqb (r .number) accepted) (packedTable (offeredTable A n l)) (packedTable []) }) ok′)
+      ∙ sym (ap (λ (r : Refused). record { number = r .number; place = r .place; clauses = cond (eqb (r .number) accepted) (packedInput (offeredTable A n l)) (packedInput []) }) ok′)
 
 -- ---- counts and arities, judged first
 
@@ -118,7 +118,7 @@ module _ (constants predicates : ℕ) (arities : List ℕ) (count : ℕ) (l : Li
       ap₂ (λ (n m : ℕ). leb constants mostConstants && (leb n mostPredicates && (allOf (λ n. leb n mostArguments) A && leb m mostInput)))
       (exactly-length 0 predicates arities) (length-map (exactly count blank l) (offered A) ∙ exactly-length blank count l)
 
-  pub counts-refused : tableFits constants predicates arities count ≡ false → {r : TableAnswer} → r ≡ record { number = aboveLimit; place = zero; clauses = packedTable [] } →
+  pub counts-refused : tableFits constants predicates arities count ≡ false → {r : TableAnswer} → r ≡ record { number = aboveLimit; place = zero; clauses = packedInput [] } →
       r ≡ tableAnswer constants (offeredArities predicates arities) (offeredTable (offeredArities predicates arities) count l)
   unfolding answered
   counts-refused e er =

@@ -50,12 +50,12 @@ clauseAnswer arities c =
     record { number = n; clause = cond (eqb n accepted) (packed C) (packed calculus.noClause) }
 
 -- A table of the first clauses, blank past them
-abbrev pub packedTable : List calculus.Clause → List Clause
-packedTable cs = exactly mostInput (packed calculus.noClause) (map packed cs)
+abbrev pub packedInput : List calculus.Clause → List Clause
+packedInput cs = exactly mostInput (packed calculus.noClause) (map packed cs)
 
 -- Where there is no refusal the table as it was read, else a blank one
 unfoldable pub answered : Refused → List calculus.Clause → TableAnswer
-answered r cs = record { number = r .number; place = r .place; clauses = cond (eqb (r .number) accepted) (packedTable cs) (packedTable []) }
+answered r cs = record { number = r .number; place = r .place; clauses = cond (eqb (r .number) accepted) (packedInput cs) (packedInput []) }
 
 abbrev pub tableAnswer : ℕ → List ℕ → List calculus.Clause → TableAnswer
 tableAnswer constants arities cs = answered (admissionRefusal constants arities cs) cs

@@ -9,12 +9,12 @@ ghost use Rattle.basis.specs.Atoms.{noAtom};
 ghost use Rattle.lists.specs.Lists.{anyOf, allOf, upFrom};
 ghost use Rattle.lists.specs.Arrays.{exactly};
 ghost use Rattle.calculus.specs.Checks.{between};
-ghost use Rattle.calculus.specs.Clauses.{arguments, noLiteral, noClause};
+ghost use Rattle.calculus.specs.Clauses.{noLiteral, noClause};
 ghost use Rattle.calculus.specs.Merging.{occursIn};
 ghost use Rattle.calculus.specs.Class.{arityOf, properAtom, properLiteral, bounded, differencesBounded, clauseRefusal};
 ghost use Rattle.calculus.specs.Admission.{clausesRefusal};
 ghost use Rattle.clauses.specs.Records.{clauseOf, packed, Counted};
-ghost use Rattle.admission.specs.Offered.{offeredArities, cleaned, offered, offeredTable, packedTable, tableFits, clauseAnswer, answered, tableAnswer};
+ghost use Rattle.admission.specs.Offered.{offeredArities, cleaned, offered, offeredTable, packedInput, tableFits, clauseAnswer, answered, tableAnswer};
 use basis::ABOVE_LIMIT;
 use basis::Atom;
 use basis::LACKS_BOUND;
@@ -31,12 +31,11 @@ use basis::OUT_OF_RANGE;
 use clauses::Clause;
 use clauses::atoms_of;
 use clauses::counted;
-use clauses::in_atom;
-use clauses::in_literal;
 use clauses::literals_of;
 use clauses::no_atom;
 use clauses::no_clause;
 use clauses::no_literal;
+use clauses::occurs;
 
 // The refusal's number, 0 for none, and the clause as it was read; a refused one is handed back blank.
 pub struct ClauseAnswer {
@@ -53,10 +52,11 @@ pub struct TableAnswer {
 
 // ---- reading a record
 
-fn arity_of(predicates: u8, arities: [u8; MOST_PREDICATES], p: u8) -> u8
+// The arity of predicate p; 0 where there is none
+pub fn arity_of(predicates: u8, arities: [u8; MOST_PREDICATES], p: u8) -> u8
     ensures { λ r. ⌜ r ≡ arityOf (offeredArities predicates arities) p ⌝ }
 {
-    let k = slot_of(p);
+    let k = predicate_slot(p);
     if predicates <= k {
         return 0;
     }
@@ -68,7 +68,7 @@ fn arity_of(predicates: u8, arities: [u8; MOST_PREDICATES], p: u8) -> u8
 }
 
 // Where the arity of predicate p stands
-fn slot_of(p: u8) -> u8
+fn predicate_slot(p: u8) -> u8
     ensures { λ r. ⌜ r ≡ p - 1 ⌝ }
 {
     if p == 0 {
@@ -238,45 +238,6 @@ fn proper_literals(predicates: u8, arities: [u8; MOST_PREDICATES], c: Clause) ->
 
 // ---- refusal 5
 
-fn in_atoms(c: Clause, x: u8) -> bool
-    ensures { λ r. ⌜ r ≡ anyOf (λ a. eqb x (a .p) || eqb x (a .q)) (clauseOf c .atoms) ⌝ }
-{
-    let n = atoms_of(c);
-    let mut j: usize = 0;
-    while j < n {
-        let a = c.atoms[j];
-        if in_atom(a, x) {
-            return true;
-        }
-        j += 1;
-    }
-    false
-}
-
-fn in_literals(c: Clause, x: u8) -> bool
-    ensures { λ r. ⌜ r ≡ anyOf (λ m. anyOf (eqb x) (arguments m)) (clauseOf c .literals) ⌝ }
-{
-    let n = literals_of(c);
-    let mut j: usize = 0;
-    while j < n {
-        let l = c.literals[j];
-        if in_literal(l, x) {
-            return true;
-        }
-        j += 1;
-    }
-    false
-}
-
-fn occurs(c: Clause, x: u8) -> bool
-    ensures { λ r. ⌜ r ≡ occursIn (clauseOf c .atoms) (clauseOf c .literals) x ⌝ }
-{
-    if in_atoms(c, x) {
-        return true;
-    }
-    in_literals(c, x)
-}
-
 fn all_occur(c: Clause) -> bool
     ensures { λ r. ⌜ r ≡ allOf (occursIn (clauseOf c .atoms) (clauseOf c .literals)) (upFrom 1 (c .variables)) ⌝ }
 {
@@ -443,14 +404,14 @@ fn counts_fit(constants: u8, predicates: u8, arities: [u8; MOST_PREDICATES], cou
 }
 
 fn no_table() -> [Clause; MOST_INPUT]
-    ensures { λ r. ⌜ r ≡ packedTable [] ⌝ }
+    ensures { λ r. ⌜ r ≡ packedInput [] ⌝ }
 {
     let c = no_clause();
     [c; MOST_INPUT]
 }
 
 fn refused_table(number: u8, place: u8) -> TableAnswer
-    ensures { λ r. ⌜ r ≡ record { number = number; place = place; clauses = packedTable [] } ⌝ }
+    ensures { λ r. ⌜ r ≡ record { number = number; place = place; clauses = packedInput [] } ⌝ }
 {
     let clauses = no_table();
     TableAnswer {

@@ -2,7 +2,7 @@
 use mathlib.Core.Path.{_≡_, refl, sym, _∙_, ap, subst}
 use mathlib.Core.List.{List, []}
 use mathlib.Core.Bool.{Bool, true, _&&_}
-use Prim.Native.Nat.{ℕ, zero, suc, _-_, _<_}
+use Prim.Native.Nat.{ℕ, zero, suc, _-_, _<_, _≤_}
 use native.Mathlib.Omega.{arith}
 use lib.IntN.{ℤ}
 use lib.Dec.{T, T-not, eqb, leb, leb→le}
@@ -24,12 +24,12 @@ use Rattle.calculus.specs.Clauses as calculus
 abbrev pub pastTable : Clause
 pastTable = record { variables = 0; atomcount = 0; literalcount = 0; atoms = []; literals = [] }
 
+-- Its atoms and literals are, however many variables it has.
+pub packed-holds : (C : calculus.Clause) → length (C .atoms) ≤ mostAtoms → length (C .literals) ≤ mostLiterals → clauseOf (packed C) ≡ C
+packed-holds C h k = λ i. record { variables = C .variables; atoms = take-exactly noAtom mostAtoms (C .atoms) h i; literals = take-exactly calculus.noLiteral mostLiterals (C .literals) k i }
+
 pub packed-says : (C : calculus.Clause) → Limited C → clauseOf (packed C) ≡ C
-packed-says C h = λ i. record {
-  variables = C .variables;
-  atoms = take-exactly noAtom mostAtoms (C .atoms) (h .few-atoms) i;
-  literals = take-exactly calculus.noLiteral mostLiterals (C .literals) (h .few-literals) i;
-}
+packed-says C h = packed-holds C (h .few-atoms) (h .few-literals)
 
 -- Of an instance with a constant for each variable
 pub packed-instanced-says : (N : calculus.Instanced) → Limited (N .clause) → length (N .instance) ≡ N .clause .variables → instancedOf (packedInstanced N) ≡ N

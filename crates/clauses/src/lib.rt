@@ -1,4 +1,4 @@
-// Clause records, their blanks, equality of atoms and literals, complements and ground instances.
+// Clause records, their blanks, equality of atoms and literals, complements, ground instances, and which variables occur.
 // Slots past a count are blank in every record that is made here or above, so that equal clauses are equal values.
 ghost use mathlib.Core.Path.{_≡_};
 ghost use mathlib.Core.Bool.{_||_};
@@ -9,8 +9,9 @@ ghost use Rattle.basis.specs.Atoms.{noAtom};
 ghost use Rattle.lists.specs.Lists.{anyOf};
 ghost use Rattle.calculus.specs.Clauses.{arguments, noLiteral, noClause, noInstanced, sameAtom, sameLiteral, renameAtom, under};
 ghost use Rattle.calculus.specs.Clauses as calculus;
+ghost use Rattle.calculus.specs.Merging.{occursIn};
 ghost use Rattle.clauses.specs.Counts.{Counts};
-ghost use Rattle.clauses.specs.Records.{packed, packedInstanced};
+ghost use Rattle.clauses.specs.Records.{clauseOf, packed, packedInstanced};
 ghost use Rattle.clauses.specs.Records as records;
 use basis::Atom;
 use basis::Literal;
@@ -116,7 +117,7 @@ pub fn same_literal(a: Literal, b: Literal) -> bool
 }
 
 // Whether variable x stands in the atom
-pub fn in_atom(a: Atom, x: u8) -> bool
+fn in_atom(a: Atom, x: u8) -> bool
     ensures { λ r. ⌜ r ≡ (eqb x (a .p) || eqb x (a .q)) ⌝ }
 {
     if x == a.p {
@@ -126,7 +127,7 @@ pub fn in_atom(a: Atom, x: u8) -> bool
 }
 
 // Whether variable x is an argument of the literal
-pub fn in_literal(l: Literal, x: u8) -> bool
+fn in_literal(l: Literal, x: u8) -> bool
     ensures { λ r. ⌜ r ≡ anyOf (eqb x) (arguments l) ⌝ }
 {
     if x == l.x {
@@ -225,4 +226,44 @@ pub fn atoms_of(c: Clause) -> usize
         return n;
     }
     MOST_ATOMS
+}
+
+fn in_atoms(c: Clause, x: u8) -> bool
+    ensures { λ r. ⌜ r ≡ anyOf (λ a. eqb x (a .p) || eqb x (a .q)) (clauseOf c .atoms) ⌝ }
+{
+    let n = atoms_of(c);
+    let mut j: usize = 0;
+    while j < n {
+        let a = c.atoms[j];
+        if in_atom(a, x) {
+            return true;
+        }
+        j += 1;
+    }
+    false
+}
+
+fn in_literals(c: Clause, x: u8) -> bool
+    ensures { λ r. ⌜ r ≡ anyOf (λ m. anyOf (eqb x) (arguments m)) (clauseOf c .literals) ⌝ }
+{
+    let n = literals_of(c);
+    let mut j: usize = 0;
+    while j < n {
+        let l = c.literals[j];
+        if in_literal(l, x) {
+            return true;
+        }
+        j += 1;
+    }
+    false
+}
+
+// Whether variable x occurs in an atom or a literal of the clause
+pub fn occurs(c: Clause, x: u8) -> bool
+    ensures { λ r. ⌜ r ≡ occursIn (clauseOf c .atoms) (clauseOf c .literals) x ⌝ }
+{
+    if in_atoms(c, x) {
+        return true;
+    }
+    in_literals(c, x)
 }

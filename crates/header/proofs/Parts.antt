@@ -7,17 +7,17 @@ use Prim.Native.Nat.{_-_, _<_, _≤_, zero, ℕ}
 use native.Mathlib.Omega.{arith}
 use lib.Dec.{T, eqb, eqb→eq, leb}
 use lib.IntN.{ℤ}
-use lib.ListN.{List·getD-eq-default, drop, getD, length, length-take, take}
+use lib.ListN.{drop, length, length-take, take}
 use lib.Seq.{length-take-le}
 use borrow.Author.Tests.{le-leb, lt-leb, ne-eqb}
 use Rattle.basis.specs.Atoms.{noAtom}
 use Rattle.basis.specs.Limits.{mostArguments, mostAtoms, mostConstants, mostInput, mostLiterals, mostPredicates, mostVariables}
 use Rattle.basis.specs.declared.Atom.{Atom}
 use Rattle.basis.specs.declared.Literal.{Literal}
-use Rattle.lists.proofs.Arrays.{exactly-take, getD-held}
+use Rattle.lists.proofs.Arrays.{exactly-take}
 use Rattle.lists.proofs.Tests.{T→eq, and-l, and-r}
 use Rattle.lists.specs.Lists.{allOf}
-use Rattle.header.specs.Records.{Held, arities}
+use Rattle.header.specs.Records.{Padded, arities}
 use Rattle.header.specs.declared.Predicates.{Predicates}
 use Rattle.admission.specs.Offered.{clauseAnswer, cleaned, offered, offeredArities}
 use Rattle.admission.specs.declared.ClauseAnswer.{ClauseAnswer}
@@ -101,27 +101,21 @@ module _ (s : List ℕ) where
 
 -- ---- arities
 
--- Past the arities the array has zeros, so that it may be asked itself.
-pub arity-held : (ps : Predicates) (r : ℕ) → Held ps → arityOf (ps .arities) r ≡ arityOf (arities ps) r
-arity-held ps r h =
-    ap (λ (l : List ℕ). getD l (r - 1) 0) (h .filled)
-    ∙ getD-held 0 mostPredicates (arities ps) (r - 1) (omega (arith, length-take (ps .count) (ps .arities), h .few))
-
-pub arities-count : (ps : Predicates) → Held ps → length (arities ps) ≡ ps .count
-arities-count ps h = let n = filled-long mostPredicates 0 (ps .arities) (ps .count) (h .filled) in let k = h .few in length-take-le (ps .count) (ps .arities) (omega arith)
-
-pub arity-first : (l : List ℕ) (r : ℕ) → r ≡ 0 → getD l 0 0 ≡ arityOf l r
-arity-first l r e = rw e
-
-pub arity-past : (l : List ℕ) (r : ℕ) → length l ≤ r - 1 → 0 ≡ arityOf l r
-arity-past l r h = sym (List·getD-eq-default l 0 h)
-
-pub judged-number : (ps : Predicates) (c : records.Clause) (a : ClauseAnswer) → Held ps → a ≡ clauseAnswer (offeredArities (ps .count) (ps .arities)) c → clauseAnswer (arities ps) c .number ≡ a .number
-judged-number ps c a h e =
+-- The arities offered to admission
+arities-offered : (ps : Predicates) → Padded ps → offeredArities (ps .count) (ps .arities) ≡ arities ps
+arities-offered ps h =
     let n = filled-long mostPredicates 0 (ps .arities) (ps .count) (h .filled) in
     let k = h .few in
-    let z : offeredArities (ps .count) (ps .arities) ≡ arities ps = exactly-take 0 (ps .count) (ps .arities) (omega arith) in
-    ap (λ (l : List ℕ). clauseAnswer l c .number) (sym z) ∙ sym (ap (λ (b : ClauseAnswer). b .number) e)
+    exactly-take 0 (ps .count) (ps .arities) (omega arith)
+
+pub arity-offered : (ps : Predicates) (r : ℕ) → Padded ps → arityOf (offeredArities (ps .count) (ps .arities)) r ≡ arityOf (arities ps) r
+arity-offered ps r h = ap (λ (l : List ℕ). arityOf l r) (arities-offered ps h)
+
+pub arities-count : (ps : Predicates) → Padded ps → length (arities ps) ≡ ps .count
+arities-count ps h = let n = filled-long mostPredicates 0 (ps .arities) (ps .count) (h .filled) in let k = h .few in length-take-le (ps .count) (ps .arities) (omega arith)
+
+pub judged-number : (ps : Predicates) (c : records.Clause) (a : ClauseAnswer) → Padded ps → a ≡ clauseAnswer (offeredArities (ps .count) (ps .arities)) c → clauseAnswer (arities ps) c .number ≡ a .number
+judged-number ps c a h e = ap (λ (l : List ℕ). clauseAnswer l c .number) (sym (arities-offered ps h)) ∙ sym (ap (λ (b : ClauseAnswer). b .number) e)
 
 -- ---- arguments
 

@@ -9,7 +9,7 @@ use lib.Seq.{take-suc-set}
 use Rattle.basis.specs.Limits.{mostClauses, mostPredicates}
 use Rattle.lists.proofs.Arrays.{exactly-none}
 use Rattle.lists.specs.Arrays.{exactly}
-use Rattle.header.specs.Records.{Fronts, Held, arities, inputOf, packedHeader}
+use Rattle.header.specs.Records.{Fronts, Padded, arities, inputOf, packedHeader}
 use Rattle.header.specs.declared.Front.{Front}
 use Rattle.header.specs.declared.Predicates.{Predicates}
 use Rattle.calculus.specs.Clauses.{Clause, noClause}
@@ -48,8 +48,8 @@ module _ {s : List ℕ} {f : Reader Clause} where
 
 -- ---- the record of a header
 
-pub held-is : (ps : Predicates) → Held ps → ps ≡ record { count = length (arities ps); arities = exactly mostPredicates 0 (arities ps) }
-held-is ps h = sym (rw (arities-count ps h, sym (h .filled)))
+pub padded-is : (ps : Predicates) → Padded ps → ps ≡ record { count = length (arities ps); arities = exactly mostPredicates 0 (arities ps) }
+padded-is ps h = sym (rw (arities-count ps h, sym (h .filled)))
 
 -- The whole header: what stands before the clauses, the clauses cs and the number of steps
 module _ (s : List ℕ) (r : Front) (f : Fronts s r) (c₁ c₂ : Cursor) (t : ℕ) (e₂ : viewed c₂ t ≡ after c₁ (stepCount s)) where
@@ -89,7 +89,7 @@ module _ (s : List ℕ) (r : Front) (f : Fronts s r) (c₁ c₂ : Cursor) (t : �
 
     pub header-read : (place : ℕ) → c₂ ≡ C.At place
         → record { constants = r .constants; predicates = r .predicates; input = r .input; steps = t; at = C.At place } ≡ packedHeader (header s 0)
-    header-read place z = sym (ap packedHeader (whole-is cs judged (C.At place) z) ∙ rw (input-count cs judged place z, sym (held-is (r .predicates) (f .held))))
+    header-read place z = sym (ap packedHeader (whole-is cs judged (C.At place) z) ∙ rw (input-count cs judged place z, sym (padded-is (r .predicates) (f .padded))))
 
     pub header-refused : (number place : ℕ) → c₂ ≡ C.Refused number place → packedHeader (bad number place) ≡ packedHeader (header s 0)
     header-refused number place z = sym (ap packedHeader (whole-is cs judged (C.Refused number place) z))

@@ -18,15 +18,15 @@ use Rattle.header.specs.declared.HeaderRead.{HeaderRead}
 abbrev pub arities : Predicates → List ℕ
 arities ps = take (ps .count) (ps .arities)
 
--- The slots past the count are 0.
-pub record Held (ps : Predicates) : Type 0 where
+-- The count is within the limit, and the slots past it are 0.
+pub record Padded (ps : Predicates) : Type 0 where
   pub few : ps .count ≤ mostPredicates
   pub filled : Filled mostPredicates 0 (ps .arities) (ps .count)
 
 -- What stands before the input clauses of the file s: the clauses and the number of steps, read on from there, make its header.
 pub record Fronts (s : List ℕ) (r : Front) : Type 0 where
   pub few : r .input ≤ mostInput
-  pub held : Held (r .predicates)
+  pub padded : Padded (r .predicates)
   pub rest : after (r .at) (fromClauses (r .constants) (arities (r .predicates)) (r .input) s) ≡ header s 0
 
 -- The input clauses of a header that is read; none where it is refused

@@ -6,13 +6,13 @@ ghost use Rattle.basis.specs.Atoms.{noAtom};
 ghost use Rattle.basis.specs.Limits.{mostAtoms, mostClauses, mostLiterals, mostPredicates, mostArguments};
 ghost use Rattle.lists.specs.Arrays.{exactly};
 ghost use Rattle.calculus.specs.Clauses.{noClause, noLiteral};
-ghost use Rattle.calculus.specs.Class.{arityOf};
 ghost use Rattle.clauses.specs.Records.{clauseOf, packed};
 ghost use Rattle.runfile.specs.Readers.{bad, times};
 ghost use Rattle.runfile.specs.File.{count, atom, argument, literal, clauseFields, clause, header};
 ghost use Rattle.fields.specs.Views.{Fills, after, reached, viewed};
-ghost use Rattle.header.specs.Records.{Fronts, Held, arities, inputOf, packedHeader};
+ghost use Rattle.header.specs.Records.{Fronts, Padded, arities, inputOf, packedHeader};
 use admission::admit_clause;
+use admission::arity_of;
 use basis::Atom;
 use basis::Literal;
 use basis::MOST_ARGUMENTS;
@@ -138,20 +138,6 @@ fn atoms_at(s: &[u8], at: Cursor, n: u8, v: u8) -> AtomsRead
 
 // ---- literals
 
-// The arity of predicate r; 0 where there is none
-fn arity_of(slots: [u8; MOST_PREDICATES], r: u8) -> u8
-    ensures { λ z. ⌜ z ≡ arityOf slots r ⌝ }
-{
-    if r == 0 {
-        return slots[0];
-    }
-    let k = r as usize - 1;
-    if k < MOST_PREDICATES {
-        return slots[k];
-    }
-    0
-}
-
 // The kth of n arguments; 0 past the last
 fn argument_at(s: &[u8], at: Cursor, v: u8, n: u8, k: u8) -> Byte
     ensures { λ r. ⌜ viewed (r .at) (r .value) ≡ after at (argument v n k (now (s .entry))) ⌝ }
@@ -163,7 +149,7 @@ fn argument_at(s: &[u8], at: Cursor, v: u8, n: u8, k: u8) -> Byte
 }
 
 fn literal_at(s: &[u8], at: Cursor, ps: Predicates, v: u8) -> LiteralRead
-    requires { ⌜ Held ps ⌝ }
+    requires { ⌜ Padded ps ⌝ }
     ensures { λ r. ⌜ viewed (r .at) (r .literal) ≡ after at (literal (arities ps) v (now (s .entry))) ⌝ }
 {
     let sign = within_at(s, at, 0, 1);
@@ -171,7 +157,7 @@ fn literal_at(s: &[u8], at: Cursor, ps: Predicates, v: u8) -> LiteralRead
     let predicate = within_at(s, past_sign, 1, ps.count);
     let past_predicate = predicate.at;
     let slots = ps.arities;
-    let n = arity_of(slots, predicate.value);
+    let n = arity_of(ps.count, slots, predicate.value);
     let x = argument_at(s, past_predicate, v, n, 1);
     let past_x = x.at;
     let y = argument_at(s, past_x, v, n, 2);
@@ -192,7 +178,7 @@ fn literal_at(s: &[u8], at: Cursor, ps: Predicates, v: u8) -> LiteralRead
 }
 
 fn literals_at(s: &[u8], at: Cursor, n: u8, ps: Predicates, v: u8) -> LiteralsRead
-    requires { ⌜ (n ≤ mostLiterals) × Held ps ⌝ }
+    requires { ⌜ (n ≤ mostLiterals) × Padded ps ⌝ }
     ensures { λ r. ⌜ Fills mostLiterals noLiteral (now (s .entry)) (literal (arities ps) v) n at (r .at) (r .literals) ⌝ }
 {
     let none = no_literal();
@@ -218,7 +204,7 @@ fn literals_at(s: &[u8], at: Cursor, n: u8, ps: Predicates, v: u8) -> LiteralsRe
 
 // The counts and lists of a clause
 fn clause_fields_at(s: &[u8], at: Cursor, ps: Predicates) -> ClauseRead
-    requires { ⌜ Held ps ⌝ }
+    requires { ⌜ Padded ps ⌝ }
     ensures { λ r. ⌜ (viewed (r .at) (clauseOf (r .clause)) ≡ after at (clauseFields (arities ps) (now (s .entry)))) × (r .clause ≡ packed (clauseOf (r .clause))) ⌝ }
 {
     let v = count_at(s, at, MOST_VARIABLES);
@@ -248,7 +234,7 @@ fn clause_fields_at(s: &[u8], at: Cursor, ps: Predicates) -> ClauseRead
 
 // A clause, its 5 then 6 judged at its end
 fn clause_at(s: &[u8], at: Cursor, ps: Predicates) -> ClauseRead
-    requires { ⌜ Held ps ⌝ }
+    requires { ⌜ Padded ps ⌝ }
     ensures { λ r. ⌜ (viewed (r .at) (clauseOf (r .clause)) ≡ after at (clause (arities ps) (now (s .entry)))) × (r .clause ≡ packed (clauseOf (r .clause))) ⌝ }
 {
     let read = clause_fields_at(s, at, ps);
@@ -268,7 +254,7 @@ fn clause_at(s: &[u8], at: Cursor, ps: Predicates) -> ClauseRead
 
 // Where n clauses end
 fn clauses_end(s: &[u8], at: Cursor, n: u8, ps: Predicates) -> Cursor
-    requires { ⌜ Held ps ⌝ }
+    requires { ⌜ Padded ps ⌝ }
     ensures { λ r. ⌜ r ≡ reached (after at (times n (clause (arities ps)) (now (s .entry)))) ⌝ }
 {
     let mut past = at;
@@ -290,7 +276,7 @@ fn clauses_end(s: &[u8], at: Cursor, n: u8, ps: Predicates) -> Cursor
 // n predicates with an arity each
 fn predicates_at(s: &[u8], at: Cursor, n: u8) -> PredicatesRead
     requires { ⌜ n ≤ mostPredicates ⌝ }
-    ensures { λ r. ⌜ (r .predicates .count ≡ n) × (viewed (r .at) (arities (r .predicates)) ≡ after at (times n (count mostArguments) (now (s .entry)))) × Held (r .predicates) ⌝ }
+    ensures { λ r. ⌜ (r .predicates .count ≡ n) × (viewed (r .at) (arities (r .predicates)) ≡ after at (times n (count mostArguments) (now (s .entry)))) × Padded (r .predicates) ⌝ }
 {
     let count = n as usize;
     let mut slots = [0u8; MOST_PREDICATES];

@@ -2,7 +2,8 @@
 use mathlib.Core.Path.{refl}
 use Rattle.text.specs.Text.{decimal}
 use Rattle.inspection.specs.Example.{AtEnd, OfEveryForm}
-use Rattle.inspection.specs.StateText.{atomText, clauseLine, clauseText, conflictLine, conflictText, entryLine, firstLine, literalText, stateText, stepText, tupleText}
+use Rattle.clausetext.specs.ClauseText.{atomText, clauseText, literalText, tupleText}
+use Rattle.inspection.specs.StateText.{clauseLine, conflictLine, conflictText, entryLine, firstLine, stateText, stepText}
 
 pub at-end : AtEnd
 unfolding atomText clauseLine clauseText conflictLine conflictText decimal entryLine firstLine literalText stateText stepText tupleText

@@ -1,5 +1,3 @@
--- The examples' texts, and laws of texts written in turn.
+-- The examples' texts, and what the records of a state say.
 pub mod Example
-pub mod Turns
-pub mod Literals
 pub mod States

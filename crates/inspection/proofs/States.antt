@@ -25,8 +25,9 @@ use Rattle.state.proofs.Table.{run-of, table-is}
 use Rattle.state.specs.States as states
 use Rattle.state.specs.States.{packedTable}
 use Rattle.state.specs.declared.State as whole
-use Rattle.inspection.specs.StateText.{inTurn, entryLine, clauseLine, firstLine, conflictLine, stateText}
-use Rattle.inspection.specs.Writing.{Kept, Recorded, ShownOnce, Shows, clauseLineOf, conflictSaid, entryLineOf, mostState}
+use Rattle.clausetext.specs.ClauseText.{inTurn}
+use Rattle.inspection.specs.StateText.{entryLine, clauseLine, firstLine, conflictLine, stateText}
+use Rattle.inspection.specs.Writing.{Beside, Recorded, ShownOnce, PutsState, clauseLineOf, conflictSaid, entryLineOf, mostState}
 
 -- The text of elements that say others
 turn-says : {A B : Type 0} (f : ℕ → B → List ℕ) (g : A → B) (n : ℕ) (xs : List A) → inTurn n (λ k x. f k (g x)) xs ≡ inTurn n f (map g xs)
@@ -77,8 +78,8 @@ pub shown-once : ShownOnce
 shown-once run table d i d₁ d₂ r₁ r₂ (s, R) a b = (a s R .wrote .left ∙ sym (b s R .wrote .left), a s R .wrote .next ∙ sym (b s R .wrote .next))
 
 -- Of a whole state record, its run and its table
-pub kept-of : {r : whole.State} {run : Run} {table : List Clause} → run ≡ r .run → table ≡ r .table → states.Kept r → Kept run table
-kept-of e f (s, S) = (s, record { run-of = subst (λ (q : Run). RunOf q s) (sym e) (run-of S); table-is = f ∙ table-is S })
+pub beside-of : {r : whole.State} {run : Run} {table : List Clause} → run ≡ r .run → table ≡ r .table → states.Made r → Beside run table
+beside-of e f (s, S) = (s, record { run-of = subst (λ (q : Run). RunOf q s) (sym e) (run-of S); table-is = f ∙ table-is S })
 
-pub shown-room : {run : Run} {table : List Clause} {d d′ : List ℕ} {i r : ℕ} → Kept run table → Shows run table d i d′ r → r ≤ i + mostState
+pub shown-room : {run : Run} {table : List Clause} {d d′ : List ℕ} {i r : ℕ} → Beside run table → PutsState run table d i d′ r → r ≤ i + mostState
 shown-room (s, R) h = h s R .room

@@ -1,10 +1,10 @@
--- The most bytes that each text has, from the paper's limits, and what a writer promises.
+-- The most bytes that each line of a state has, from the paper's limits, and what the writer of a state promises.
 use mathlib.Core.Path.{_≡_}
 use mathlib.Core.Bool.{Bool, true, false}
 use mathlib.Core.List.{List}
 use mathlib.Core.Option.{Option, none, some}
-use Prim.Native.Nat.{ℕ, _+_, _*_, _≤_}
-use Rattle.basis.specs.Limits.{mostVariables, mostAtoms, mostLiterals, mostArguments, mostEntries, mostClauses}
+use Prim.Native.Nat.{ℕ, _+_, _*_}
+use Rattle.basis.specs.Limits.{mostVariables, mostEntries, mostClauses}
 use Rattle.calculus.specs.Clauses as calculus
 use Rattle.calculus.specs.States.{State, clauses}
 use Rattle.clauses.specs.Records.{clauseOf, instancedOf}
@@ -15,30 +15,10 @@ use Rattle.trail.specs.declared.Entry.{Entry}
 use Rattle.rules.specs.Answers.{RunOf}
 use Rattle.rules.specs.declared.Run.{Run}
 use Rattle.state.specs.States.{packedTable}
-use Rattle.text.specs.Text.{Wrote}
+use Rattle.clausetext.specs.Room.{mostNumber, mostTuple, mostLiteral, mostClauseText, Put}
 use Rattle.inspection.specs.StateText.{entryLine, clauseLine, stateText}
 
 -- ---- how long a text can be
-
--- A byte has three digits.
-abbrev pub mostNumber : ℕ
-mostNumber = 3
-
--- c has a sign and ten digits: any number of 32 bits, wider than the paper's range.
-abbrev pub mostSigned : ℕ
-mostSigned = 11
-
--- `255-255<=-2147483648`
-abbrev pub mostAtom : ℕ
-mostAtom = mostNumber + 1 + mostNumber + 2 + mostSigned
-
--- n numbers, each with a comma, in brackets
-abbrev pub mostTuple : ℕ → ℕ
-mostTuple n = 2 + n * (1 + mostNumber)
-
--- `~P255(255,255,255)`
-abbrev pub mostLiteral : ℕ
-mostLiteral = 2 + mostNumber + mostTuple mostArguments
 
 -- ` propagate ` is the longest.
 abbrev pub mostRule : ℕ
@@ -55,10 +35,6 @@ mostEntry = mostLiteral + mostStep
 -- `trail 255 ..` and the end of the line
 abbrev pub mostEntryLine : ℕ
 mostEntryLine = 6 + mostNumber + 1 + mostEntry + 1
-
--- `255 [..] ..`: each atom and each literal with a space before it
-abbrev pub mostClauseText : ℕ
-mostClauseText = mostNumber + 2 + mostAtoms * (1 + mostAtom) + 1 + mostLiterals * (1 + mostLiteral)
 
 -- `clause 255 ..` and the end of the line
 abbrev pub mostClauseLine : ℕ
@@ -95,24 +71,19 @@ abbrev pub conflictSaid : Bool → Instanced → Option calculus.Instanced
 conflictSaid false n = none
 conflictSaid true n = some (instancedOf n)
 
--- A writer left the text w in the buffer d from i on, all other bytes as they were, and w has at most so many bytes.
-pub record Put (most : ℕ) (d : List ℕ) (i : ℕ) (w d′ : List ℕ) (r : ℕ) : Type 0 where
-  pub wrote : Wrote d i w d′ r
-  pub room : r ≤ i + most
-
 -- The run and the table beside it are the records of the state s, and s was reached.
 pub record Recorded (run : Run) (table : List Clause) (s : State) : Type 0 where
   pub run-of : RunOf run s
   pub table-is : table ≡ packedTable (clauses s)
 
 -- Taken for granted of a run and a table: they are of one state reached.
-abbrev pub Kept : Run → List Clause → Type 0
-Kept run table = (s : State) × Recorded run table s
+abbrev pub Beside : Run → List Clause → Type 0
+Beside run table = (s : State) × Recorded run table s
 
 -- What `put_state` promises: that state's text.
-abbrev pub Shows : Run → List Clause → (before : List ℕ) (at : ℕ) (after : List ℕ) (next : ℕ) → Type 0
-Shows run table d i d′ r = (s : State) → Recorded run table s → Put mostState d i (stateText s) d′ r
+abbrev pub PutsState : Run → List Clause → (before : List ℕ) (at : ℕ) (after : List ℕ) (next : ℕ) → Type 0
+PutsState run table d i d′ r = (s : State) → Recorded run table s → Put mostState d i (stateText s) d′ r
 
 -- The bytes and the next place are unique. Proved in proofs/States.antt.
 abbrev pub ShownOnce : Type 0
-ShownOnce = (run : Run) (table : List Clause) (d : List ℕ) (i : ℕ) (d₁ d₂ : List ℕ) (r₁ r₂ : ℕ) → Kept run table → Shows run table d i d₁ r₁ → Shows run table d i d₂ r₂ → (d₁ ≡ d₂) × (r₁ ≡ r₂)
+ShownOnce = (run : Run) (table : List Clause) (d : List ℕ) (i : ℕ) (d₁ d₂ : List ℕ) (r₁ r₂ : ℕ) → Beside run table → PutsState run table d i d₁ r₁ → PutsState run table d i d₂ r₂ → (d₁ ≡ d₂) × (r₁ ≡ r₂)

@@ -1,5 +1,5 @@
 -- Laws of merging over arrays, and the proofs of the functions.
-pub mod Held
+pub mod Appending
 pub mod Whole
 pub mod Own
 pub mod Says

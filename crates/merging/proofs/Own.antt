@@ -12,9 +12,9 @@ use Rattle.lists.specs.Lists.{keepIf, pairUp}
 use Rattle.lists.proofs.Walks.{take-more, keepIf-more, keepIf-short}
 use Rattle.calculus.specs.Clauses.{arguments, noLiteral, sameLiteral, ground}
 use Rattle.calculus.specs.Merging.{join, joins, ownPairs, reasonLiterals, ownIndex}
-use Rattle.merging.specs.declared.Literals.{Literals}
-use Rattle.merging.specs.Scratch.{bothLiterals, heldLiterals}
-use Rattle.merging.proofs.Held.{pushLiteral, push-literal}
+use Rattle.joining.specs.declared.Literals.{Literals}
+use Rattle.joining.specs.Scratch.{bothLiterals, heldLiterals}
+use Rattle.merging.proofs.Appending.{pushLiteral, push-literal}
 
 joins-append : (es fs : List (ℕ × ℕ)) (σ : List ℕ) → joins (es ++ fs) σ ≡ joins fs (joins es σ)
 joins-append [] fs σ = refl

@@ -16,8 +16,9 @@ use Rattle.calculus.proofs.Class.{limited-of}
 use Rattle.clauses.specs.declared.Clause.{Clause}
 use Rattle.clauses.specs.Records.{clauseOf, instancedOf, packed, packedInstanced, counted, Counted}
 use Rattle.clauses.proofs.Records.{packed-instanced-says, counted-facts}
-use Rattle.merging.specs.declared.Merged.{Merged}
-use Rattle.merging.specs.Results.{tooLarge, fitted, packedReason, noReason, resolved, factorized, reasonOf, ResolvedSays, FactorizedSays, ReasonSays, CanBeMerged}
+use Rattle.joining.specs.declared.Merged.{Merged}
+use Rattle.joining.specs.Fitted.{tooLarge, fitted}
+use Rattle.merging.specs.Results.{packedReason, noReason, resolved, factorized, reasonOf, ResolvedSays, FactorizedSays, ReasonSays, CanBeMerged}
 use Rattle.merging.proofs.Own.{stay-few}
 use Rattle.merging.proofs.Whole.{merge-limits, few-atoms}
 

@@ -1,42 +1,32 @@
 -- From what each part of a merge does to the calculus's merge, and from its records to the limits.
 use mathlib.Core.Path.{_≡_, refl, sym, _∙_, ap, ap₂, subst}
 use mathlib.Core.List.{List, [], _∷_, _++_, map, append-assoc, map-append, map-map}
-use mathlib.Core.Bool.{Bool, true, false, not, _&&_, _||_, cond}
-use Prim.Native.Nat.{ℕ, zero, suc, _+_, _≤_, _<_, min, max}
+use mathlib.Core.Bool.{Bool, true, false, not, _||_, cond}
+use Prim.Native.Nat.{ℕ, zero, suc, _+_, _≤_, min, max}
 use native.Mathlib.Omega.{arith}
-use lib.Dec.{T, eqb, leb}
+use lib.Dec.{T, eqb}
 use lib.ListN.{length, getD, length-map, length-take, length-append}
-use borrow.Author.Tests.{ne-eqb, le-leb, lt-leb}
+use borrow.Author.Tests.{ne-eqb}
 use Rattle.basis.specs.declared.Atom.{Atom}
 use Rattle.basis.specs.declared.Literal.{Literal}
 use Rattle.basis.specs.Limits.{mostVariables, mostAtoms, mostLiterals}
-use Rattle.basis.specs.Atoms.{noAtom}
 use Rattle.lists.specs.Lists.{upFrom, keepIf, anyOf, without, pairUp}
 use Rattle.lists.specs.Arrays.{exactly}
 use Rattle.lists.proofs.Arrays.{getD-held, map-exactly}
 use Rattle.lists.proofs.Walks.{keepIf-more, without-short, upFrom-length}
 use Rattle.calculus.specs.Clauses.{arguments, noLiteral, sameAtom, renameAtom, renameLiteral, under, Instanced}
 use Rattle.calculus.specs.Merging.{join, joins, distinct, occursIn, closeUp, merge, apart, factored}
-use Rattle.calculus.specs.Class.{withinLimits}
 use Rattle.calculus.proofs.Merged.{sameAtom→eq, distinct-short}
 use Rattle.clauses.specs.declared.Clause.{Clause}
 use Rattle.clauses.specs.Records.{clauseOf, packedInstanced, Counted}
-use Rattle.merging.specs.declared.Atoms.{Atoms}
-use Rattle.merging.specs.declared.Literals.{Literals}
-use Rattle.merging.specs.declared.Names.{Names}
-use Rattle.merging.specs.declared.Merged.{Merged}
-use Rattle.merging.specs.Scratch.{bothVariables, bothAtoms, bothLiterals, atomsIn, literalsIn, namesIn, heldAtoms, heldLiterals, heldNames, addOne, addEach, closed, through}
-use Rattle.merging.specs.Results.{tooLarge, fitted}
-use Rattle.merging.proofs.Held.{atoms-in, literals-in, names-in, kept-short}
-
--- ---- a clause whose variables follow no others
-
-pub apart-none : apart 0 ≡ (λ x. x)
-apart-none = λ i x. go x i
-  where
-    go : (x : ℕ) → apart 0 x ≡ x
-    go zero = refl
-    go (suc x) = rw (ne-eqb (suc x) 0 (λ e. omega arith)) (omega arith)
+use Rattle.joining.specs.declared.Atoms.{Atoms}
+use Rattle.joining.specs.declared.Literals.{Literals}
+use Rattle.joining.specs.declared.Names.{Names}
+use Rattle.joining.specs.Scratch.{bothVariables, bothAtoms, bothLiterals, atomsIn, literalsIn, heldAtoms, heldLiterals, heldNames, closed, through}
+use Rattle.joining.specs.Fitted.{fitted}
+use Rattle.joining.proofs.Closing.{close-fits}
+use Rattle.joining.proofs.Scratch.{atoms-in, literals-in, kept-short}
+use Rattle.merging.specs.Added.{addOne, addEach}
 
 -- ---- tables longer than they need be
 
@@ -116,69 +106,6 @@ pub addEach-distinct : (xs ys : List Atom) → addEach (distinct xs) ys ≡ dist
 addEach-distinct xs [] = ap distinct (sym (mathlib.Core.List.append-nil xs))
 addEach-distinct xs (y ∷ ys) =
     ap (λ (l : List Atom). addEach l ys) (sym (distinct-more xs y)) ∙ addEach-distinct (xs ++ (y ∷ [])) ys ∙ ap distinct (append-assoc xs (y ∷ []) ys)
-
--- ---- the limits, counted on what closing up gives
-
-module _ (v : ℕ) (az : List Atom) (ls : List Literal) (t : List ℕ) where
-  abbrev kept : List ℕ
-  kept = keepIf (occursIn az ls) (upFrom 1 v)
-
-  pub close-limits : withinLimits (closeUp v az ls t .clause) ≡ (leb (length (keepIf (occursIn az ls) (upFrom 1 v))) mostVariables && (leb (length az) mostAtoms && leb (length ls) mostLiterals))
-  unfolding closeUp
-  close-limits = ap₂ (λ (n m : ℕ). leb (length kept) mostVariables && (leb n mostAtoms && leb m mostLiterals)) (length-map az (renameAtom (closed kept))) (length-map ls (renameLiteral (closed kept)))
-
-  refused : withinLimits (closeUp v az ls t .clause) ≡ false → fitted (closeUp v az ls t) ≡ tooLarge
-  unfolding fitted
-  refused e = rw e
-
-  pub close-no-variables : mostVariables < length (keepIf (occursIn az ls) (upFrom 1 v)) → fitted (closeUp v az ls t) ≡ tooLarge
-  close-no-variables h = refused (close-limits ∙ rw (lt-leb (length kept) mostVariables h))
-
-  pub close-no-atoms : mostAtoms < length az → fitted (closeUp v az ls t) ≡ tooLarge
-  close-no-atoms h = refused (close-limits ∙ rw (lt-leb (length az) mostAtoms h) (go (leb (length kept) mostVariables)))
-    where
-      go : (a : Bool) → (a && false) ≡ false
-      go true = refl
-      go false = refl
-
-  pub close-no-literals : mostLiterals < length ls → fitted (closeUp v az ls t) ≡ tooLarge
-  close-no-literals h = refused (close-limits ∙ rw (lt-leb (length ls) mostLiterals h) (go (leb (length kept) mostVariables) (leb (length az) mostAtoms)))
-    where
-      go : (a b : Bool) → (a && (b && false)) ≡ false
-      go true true = refl
-      go true false = refl
-      go false b = refl
-
-  pub close-fits : length (keepIf (occursIn az ls) (upFrom 1 v)) ≤ mostVariables → length az ≤ mostAtoms → length ls ≤ mostLiterals →
-      fitted (closeUp v az ls t) ≡ record { fits = true; of = packedInstanced (closeUp v az ls t) }
-  unfolding fitted
-  close-fits hv ha hl =
-      let e : withinLimits (closeUp v az ls t .clause) ≡ true = close-limits ∙ rw (le-leb (length kept) mostVariables hv, le-leb (length az) mostAtoms ha, le-leb (length ls) mostLiterals hl) in
-      rw e
-
--- The parts that the code makes are those of the record.
-pub close-is : (v : ℕ) (az : Atoms) (ls : Literals) (t : List ℕ) {ks : Names} {k n m : ℕ} {atoms : List Atom} {literals : List Literal} {instance : List ℕ} →
-    ks ≡ heldNames (keepIf (occursIn (atomsIn az) (literalsIn ls)) (upFrom 1 v)) → k ≡ ks .n → n ≡ length (atomsIn az) → m ≡ length (literalsIn ls) →
-    v ≤ bothVariables → k ≤ mostVariables → n ≤ mostAtoms → m ≤ mostLiterals →
-    atoms ≡ exactly mostAtoms noAtom (map (renameAtom (closed (namesIn ks))) (atomsIn az)) →
-    literals ≡ exactly mostLiterals noLiteral (map (renameLiteral (closed (namesIn ks))) (literalsIn ls)) →
-    instance ≡ exactly mostVariables 0 (map (under t) (namesIn ks)) →
-    _≡_ {A = Merged} (record { fits = true; of = record { clause = record { variables = k; atomcount = n; literalcount = m; atoms = atoms; literals = literals }; instance = instance } })
-    (fitted (closeUp v (atomsIn az) (literalsIn ls) t))
-unfolding closeUp
-close-is v az ls t {ks} {k} {n} {m} ek enk en em hv hk hn hm ea el ei =
-    let az′ = atomsIn az in
-    let ls′ = literalsIn ls in
-    let K = keepIf (occursIn az′ ls′) (upFrom 1 v) in
-    let count : k ≡ length K = enk ∙ ap (λ (l : Names). l .n) ek in
-    let names : namesIn ks ≡ K = names-in K (omega (arith, kept-short (occursIn az′ ls′) v)) ek in
-    let ea′ = ea ∙ ap (λ (l : List ℕ). exactly mostAtoms noAtom (map (renameAtom (closed l)) az′)) names in
-    let el′ = el ∙ ap (λ (l : List ℕ). exactly mostLiterals noLiteral (map (renameLiteral (closed l)) ls′)) names in
-    let ei′ = ei ∙ ap (λ (l : List ℕ). exactly mostVariables 0 (map (under t) l)) names in
-    let en′ = en ∙ sym (length-map az′ (renameAtom (closed K))) in
-    let em′ = em ∙ sym (length-map ls′ (renameLiteral (closed K))) in
-    (λ i. record { fits = true; of = record { clause = record { variables = count i; atomcount = en′ i; literalcount = em′ i; atoms = ea′ i; literals = el′ i }; instance = ei′ i } })
-    ∙ sym (close-fits v az′ ls′ t (omega arith) (omega arith) (omega arith))
 
 -- ---- two clauses together
 

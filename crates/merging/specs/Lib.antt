@@ -1,3 +1,3 @@
--- What merging gives back as records, and the lists that it works on.
+-- What merging gives back as records, and how atoms are put together.
 pub mod Results
-pub mod Scratch
+pub mod Added

@@ -1,26 +1,18 @@
 -- The records that merging gives back, from the calculus's reason, resolvent and factored conflict.
 use mathlib.Core.Path.{_≡_}
 use mathlib.Core.List.{List}
-use mathlib.Core.Bool.{true, false, _&&_, cond}
+use mathlib.Core.Bool.{true, _&&_, cond}
 use Prim.Native.Nat.{ℕ}
 use lib.ListN.{take}
-use Rattle.calculus.specs.Class.{withinLimits}
 use Rattle.calculus.specs.Merging.{reason, resolvent, factored}
 use Rattle.clauses.specs.declared.Clause.{Clause}
 use Rattle.clauses.specs.declared.Instanced.{Instanced}
 use Rattle.clauses.specs.Records.{clauseOf, instancedOf, packedInstanced, counted, Counted}
-use Rattle.merging.specs.declared.Merged.{Merged}
+use Rattle.joining.specs.declared.Merged.{Merged}
+use Rattle.joining.specs.Fitted.{tooLarge, fitted}
 use Rattle.merging.specs.declared.Reason.{Reason}
 use Rattle.calculus.specs.Clauses as calculus
 use Rattle.calculus.specs.Merging as merging
-
--- No clause: one that is too large, or that was to be made from records whose counts are above the limits
-abbrev pub tooLarge : Merged
-tooLarge = record { fits = false; of = packedInstanced calculus.noInstanced }
-
--- "No room: clause limits counted after merging."
-unfoldable pub fitted : calculus.Instanced → Merged
-fitted N = cond (withinLimits (N .clause)) (record { fits = true; of = packedInstanced N }) tooLarge
 
 -- The conflict n resolved at its literal j with the reason r at its literal i, both from 0
 unfoldable pub resolved : Instanced → ℕ → Instanced → ℕ → Merged

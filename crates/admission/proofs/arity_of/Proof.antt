@@ -9,11 +9,11 @@ use Rattle.admission.proofs.Judging.{arity-within, arity-past}
 use Rattle.admission.proofs.arity_of.Statement.{statement}
 use Rattle.admission.proofs.arity_of.Tie as tie
 
-slot-of-requires : tie.Need-slot-of-requires
-slot-of-requires c κs = search needs
+predicate-slot-requires : tie.Need-predicate-slot-requires
+predicate-slot-requires c κs = search needs
 
 returns : tie.Need-returns
-returns c = let a = c .before .before .args in sym (arity-past (a .predicates) (a .t2) (a .p) (omega (arith, c .before .slot-of .ensures)))
+returns c = let a = c .before .before .args in sym (arity-past (a .predicates) (a .t2) (a .p) (omega (arith, c .before .predicate-slot .ensures)))
 
 cast-i : tie.Need-cast-i
 cast-i c = search needs
@@ -24,16 +24,16 @@ array-read-result c = search needs
 returns-2 : tie.Need-returns-2
 returns-2 c =
     let a = c .before .before .before .args in
-    let h : a .p - 1 < a .predicates = omega (arith, c .before .before .slot-of .ensures) in
-    let e : c .before .before .slot-of .result ≡ a .p - 1 = c .before .before .slot-of .ensures in
+    let h : a .p - 1 < a .predicates = omega (arith, c .before .before .predicate-slot .ensures) in
+    let e : c .before .before .predicate-slot .result ≡ a .p - 1 = c .before .before .predicate-slot .ensures in
     rw e (sym (arity-within (a .predicates) (a .t2) (a .p) h))
 
 returns-3 : tie.Need-returns-3
 returns-3 c =
     let a = c .before .before .before .args in
     let n : length (a .t2) ≡ 8 = search needs in
-    sym (arity-within (a .predicates) (a .t2) (a .p) (omega (arith, c .before .before .slot-of .ensures)) ∙ List·getD-eq-default (a .t2) 0 (omega (arith, n, c .before .before .slot-of .ensures)))
+    sym (arity-within (a .predicates) (a .t2) (a .p) (omega (arith, c .before .before .predicate-slot .ensures)) ∙ List·getD-eq-default (a .t2) 0 (omega (arith, n, c .before .before .predicate-slot .ensures)))
 
 pub arity-of-spec : {M : Type 1} → statement M
 arity-of-spec =
-    tie.close (tie.spec slot-of-requires returns cast-i array-read-result returns-2 returns-3)
+    tie.close (tie.spec predicate-slot-requires returns cast-i array-read-result returns-2 returns-3)

@@ -21,7 +21,12 @@ refuse-requires : tie.Need-refuse-requires
 refuse-requires c κs = search needs
 
 returns-2 : tie.Need-returns-2
-returns-2 c = (rw (c .refuse .ensures) (clause-refused (arities (c .before .before .before .before .before .before .before .args .ps)) (now (c .before .before .before .before .before .before .before .args .s)) (c .before .before .before .before .before .clause-fields-at .result .clause) (c .before .before .before .before .before .clause-fields-at .ensures .1) (c .before .before .before .before .before .before .before .args .at) (c .before .before .before .before .before .clause-fields-at .result .at) (clauseOf (c .before .before .before .before .before .clause-fields-at .result .clause)) (c .before .before .admit-clause .result .number) (c .before .before .before .before .before .clause-fields-at .ensures .0) (judged-number (c .before .before .before .before .before .before .before .args .ps) (c .before .before .before .before .before .clause-fields-at .result .clause) (c .before .before .admit-clause .result) (c .before .before .before .before .before .before .before .pre) (c .before .before .admit-clause .ensures)) (c .before .if1 .left)), c .before .before .before .before .before .clause-fields-at .ensures .1)
+returns-2 c =
+    let at-if1 = c .before in
+    let at-admit-clause = at-if1 .before in
+    let at-clause-fields-at = at-admit-clause .before .before .before in
+    let first = at-clause-fields-at .before .before in
+    (rw (c .refuse .ensures) (clause-refused (arities (first .args .ps)) (now (first .args .s)) (at-clause-fields-at .clause-fields-at .result .clause) (at-clause-fields-at .clause-fields-at .ensures .1) (first .args .at) (at-clause-fields-at .clause-fields-at .result .at) (clauseOf (at-clause-fields-at .clause-fields-at .result .clause)) (at-admit-clause .admit-clause .result .number) (at-clause-fields-at .clause-fields-at .ensures .0) (judged-number (first .args .ps) (at-clause-fields-at .clause-fields-at .result .clause) (at-admit-clause .admit-clause .result) (first .pre) (at-admit-clause .admit-clause .ensures)) (at-if1 .if1 .left)), at-clause-fields-at .clause-fields-at .ensures .1)
 
 pub clause-at-spec : {M : Type 1} → statement M
 clause-at-spec =

@@ -29,7 +29,12 @@ enum-known-next : tie.Need-enum-known-next Inv-loop μ-loop
 enum-known-next c = search needs
 
 returns : tie.Need-returns Inv-loop μ-loop
-returns c = let g = c .before .next .given in sym (g .1) ∙ ends-refused (now (c .before .before .before .before .before .before .before .args .s)) (clause (arities (c .before .before .before .before .before .before .before .args .ps))) (c .before .before .before .before .before .before .before .args .at) (c .before .before .before .clause-at .result .at) (c .before .before .before .before .before .loop .j + 1) (c .before .before .before .before .before .before .before .args .n) (g .0 .0) (g .0 .1 .0) (g .1) (omega arith) (ends-more (now (c .before .before .before .before .before .before .before .args .s)) (clause (arities (c .before .before .before .before .before .before .before .args .ps))) (c .before .before .before .before .before .before .before .args .at) (c .before .before .before .before .before .loop .past) (c .before .before .before .clause-at .result .at) (c .before .before .before .before .before .loop .j) (c .before .before .before .before .before .loop .inv .1) (reached-of (c .before .before .before .clause-at .result .at) (clauseOf (c .before .before .before .clause-at .result .clause)) (c .before .before .before .clause-at .ensures .0)))
+returns c =
+    let at-next = c .before in
+    let at-clause-at = at-next .before .before in
+    let at-loop = at-clause-at .before .before in
+    let first = at-loop .before .before in
+    let g = at-next .next .given in sym (g .1) ∙ ends-refused (now (first .args .s)) (clause (arities (first .args .ps))) (first .args .at) (at-clause-at .clause-at .result .at) (at-loop .loop .j + 1) (first .args .n) (g .0 .0) (g .0 .1 .0) (g .1) (omega arith) (ends-more (now (first .args .s)) (clause (arities (first .args .ps))) (first .args .at) (at-loop .loop .past) (at-clause-at .clause-at .result .at) (at-loop .loop .j) (at-loop .loop .inv .1) (reached-of (at-clause-at .clause-at .result .at) (clauseOf (at-clause-at .clause-at .result .clause)) (at-clause-at .clause-at .ensures .0)))
 
 enum-told : tie.Need-enum-told Inv-loop μ-loop
 enum-told c = search needs

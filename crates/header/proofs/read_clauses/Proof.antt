@@ -30,7 +30,7 @@ loop-holds : tie.Need-loop-holds Inv-loop μ-loop
 loop-holds c = (omega arith, rw (c .no-clause .ensures) (stores-none (c .before .before .before .front-at .result .at)))
 
 clause-at-requires : tie.Need-clause-at-requires Inv-loop μ-loop
-clause-at-requires c κs = c .before .before .before .before .before .front-at .ensures .held
+clause-at-requires c κs = c .before .before .before .before .before .front-at .ensures .padded
 
 mul-clauses : tie.Need-mul-clauses Inv-loop μ-loop
 mul-clauses c = search needs
@@ -56,7 +56,14 @@ enum-known-end : tie.Need-enum-known-end Inv-loop μ-loop
 enum-known-end c = search needs
 
 returns : tie.Need-returns Inv-loop μ-loop
-returns c = let e : c .before .before .before .before .before .loop .j ≡ c .before .before .before .before .before .before .before .before .before .front-at .result .input = omega arith in rw (c .before .before .before .before .before .before .no-clause .ensures) (table-refused (now (c .before .before .before .before .before .before .before .before .before .before .before .args .s)) (c .before .before .before .before .before .before .before .before .before .front-at .result) (c .before .before .before .before .before .before .before .before .before .front-at .ensures) (c .before .before .before .before .before .loop .past) (c .before .before .before .step-count-at .result .at) (c .before .before .before .step-count-at .result .value) (told-view (c .before .before .before .step-count-at .ensures .0)) (c .before .before .before .before .before .loop .clauses) (rw e at (c .before .before .before .before .before .loop .inv .1)) (c .before .end .given .0 .0) (c .before .end .given .0 .1 .0) (c .before .end .given .1))
+returns c =
+    let at-end = c .before in
+    let at-step-count-at = at-end .before .before in
+    let at-loop = at-step-count-at .before .before in
+    let at-no-clause = at-loop .before in
+    let at-front-at = at-no-clause .before .before .before in
+    let first = at-front-at .before .before in
+    let e : at-loop .loop .j ≡ at-front-at .front-at .result .input = omega arith in rw (at-no-clause .no-clause .ensures) (table-refused (now (first .args .s)) (at-front-at .front-at .result) (at-front-at .front-at .ensures) (at-loop .loop .past) (at-step-count-at .step-count-at .result .at) (at-step-count-at .step-count-at .result .value) (told-view (at-step-count-at .step-count-at .ensures .0)) (at-loop .loop .clauses) (rw e at (at-loop .loop .inv .1)) (at-end .end .given .0 .0) (at-end .end .given .0 .1 .0) (at-end .end .given .1))
 
 enum-told : tie.Need-enum-told Inv-loop μ-loop
 enum-told c = search needs

@@ -10,7 +10,7 @@ front-at-requires : tie.Need-front-at-requires
 front-at-requires c κs = search needs
 
 clauses-end-requires : tie.Need-clauses-end-requires
-clauses-end-requires c κs = c .before .front-at .ensures .held
+clauses-end-requires c κs = c .before .front-at .ensures .padded
 
 step-count-at-requires : tie.Need-step-count-at-requires
 step-count-at-requires c κs = search needs

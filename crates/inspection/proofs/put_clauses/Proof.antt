@@ -3,8 +3,8 @@ use Prim.Native.Nat.{_≤_, _-_, _+_}
 use native.Mathlib.Omega.{arith}
 use borrow.Author.Needs.{needs}
 use Rattle.clauses.proofs.Records.{pastTable}
+use Rattle.clausetext.proofs.Turns.{Turned, turned-most, turned-more, turned-none}
 use Rattle.inspection.specs.Writing.{clauseLineOf, mostClauseLine}
-use Rattle.inspection.proofs.Turns.{Turned, turned-most, turned-more, turned-none}
 use Rattle.inspection.proofs.put_clauses.Statement.{statement}
 use Rattle.inspection.proofs.put_clauses.Tie as tie
 

@@ -3,8 +3,8 @@ use Prim.Native.Nat.{_≤_, _-_, _+_}
 use native.Mathlib.Omega.{arith}
 use borrow.Author.Needs.{needs}
 use Rattle.trail.specs.Entries.{pastEnd}
+use Rattle.clausetext.proofs.Turns.{Turned, turned-most, turned-more, turned-none}
 use Rattle.inspection.specs.Writing.{entryLineOf, mostEntryLine}
-use Rattle.inspection.proofs.Turns.{Turned, turned-most, turned-more, turned-none}
 use Rattle.inspection.proofs.put_trail.Statement.{statement}
 use Rattle.inspection.proofs.put_trail.Tie as tie
 

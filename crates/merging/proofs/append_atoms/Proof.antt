@@ -10,9 +10,10 @@ use lib.ListN.{take}
 use borrow.Author.Needs.{needs}
 use borrow.Author.Tests.{not-true, not-false}
 use Rattle.calculus.specs.Clauses.{renameAtom}
-use Rattle.merging.specs.declared.Atoms.{Atoms}
-use Rattle.merging.specs.Scratch.{atomsIn, heldAtoms, through, addEach}
-use Rattle.merging.proofs.Held.{pushAtom, atoms-short, atoms-turn}
+use Rattle.joining.specs.declared.Atoms.{Atoms}
+use Rattle.joining.specs.Scratch.{atomsIn, heldAtoms, through}
+use Rattle.merging.specs.Added.{addEach}
+use Rattle.merging.proofs.Appending.{pushAtom, atoms-short, atoms-turn}
 use Rattle.merging.proofs.append_atoms.Statement.{statement}
 use Rattle.merging.proofs.append_atoms.Tie as tie
 

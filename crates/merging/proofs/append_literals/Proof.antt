@@ -12,9 +12,9 @@ use borrow.Author.Needs.{needs}
 use borrow.Author.Tests.{eq-eqb, ne-eqb}
 use Rattle.lists.specs.Lists.{without}
 use Rattle.calculus.specs.Clauses.{renameLiteral}
-use Rattle.merging.specs.declared.Literals.{Literals}
-use Rattle.merging.specs.Scratch.{literalsIn, heldLiterals, through}
-use Rattle.merging.proofs.Held.{pushLiteral, literals-short, literals-turn}
+use Rattle.joining.specs.declared.Literals.{Literals}
+use Rattle.joining.specs.Scratch.{literalsIn, heldLiterals, through}
+use Rattle.merging.proofs.Appending.{pushLiteral, literals-short, literals-turn}
 use Rattle.merging.proofs.append_literals.Statement.{statement}
 use Rattle.merging.proofs.append_literals.Tie as tie
 

@@ -6,9 +6,10 @@ use Prim.Native.Nat.{_≤_, _-_, _+_}
 use native.Mathlib.Omega.{arith}
 use lib.ListN.{length, getD, take}
 use borrow.Author.Needs.{needs}
-use Rattle.merging.specs.declared.Names.{Names}
-use Rattle.merging.specs.Scratch.{namesIn, heldNames}
-use Rattle.merging.proofs.Held.{pushName, names-turn}
+use Rattle.joining.specs.declared.Names.{Names}
+use Rattle.joining.specs.Scratch.{namesIn, heldNames}
+use Rattle.joining.proofs.Scratch.{pushName}
+use Rattle.merging.proofs.Appending.{names-turn}
 use Rattle.merging.proofs.append_names.Statement.{statement}
 use Rattle.merging.proofs.append_names.Tie as tie
 

@@ -7,9 +7,9 @@ use borrow.Author.Needs.{needs}
 use Rattle.calculus.specs.Clauses.{renameAtom, under}
 use Rattle.calculus.specs.Merging.{distinct}
 use Rattle.clauses.specs.Records.{clauseOf}
-use Rattle.merging.proofs.Held.{atoms-held}
-use Rattle.calculus.proofs.Merged.{distinct-short}
+use Rattle.merging.proofs.Appending.{atoms-held}
 use Rattle.merging.proofs.Whole.{atoms-few, both-atoms-held}
+use Rattle.calculus.proofs.Merged.{distinct-short}
 use Rattle.merging.proofs.both_atoms.Statement.{statement}
 use Rattle.merging.proofs.both_atoms.Tie as tie
 

@@ -8,7 +8,7 @@ use Rattle.lists.specs.Lists.{without}
 use Rattle.lists.proofs.Walks.{without-short}
 use Rattle.calculus.specs.Clauses.{renameLiteral, under}
 use Rattle.clauses.specs.Records.{clauseOf}
-use Rattle.merging.proofs.Held.{literals-held}
+use Rattle.merging.proofs.Appending.{literals-held}
 use Rattle.merging.proofs.Whole.{literals-few, both-literals-held}
 use Rattle.merging.proofs.both_literals.Statement.{statement}
 use Rattle.merging.proofs.both_literals.Tie as tie

@@ -10,8 +10,9 @@ use Rattle.lists.specs.Lists.{without, pairUp}
 use Rattle.calculus.specs.Clauses.{arguments, noLiteral, renameLiteral}
 use Rattle.calculus.specs.Merging.{joins}
 use Rattle.clauses.specs.Records.{clauseOf, instancedOf}
-use Rattle.merging.specs.Results.{fitted}
-use Rattle.merging.proofs.Whole.{apart-none, atoms-few, literals-few, few-atoms, few-others, merge-made, factored-low-high}
+use Rattle.joining.specs.Fitted.{fitted}
+use Rattle.joining.proofs.Scratch.{apart-none}
+use Rattle.merging.proofs.Whole.{atoms-few, literals-few, few-atoms, few-others, merge-made, factored-low-high}
 use Rattle.merging.proofs.factor_counted.Statement.{statement}
 use Rattle.merging.proofs.factor_counted.Tie as tie
 

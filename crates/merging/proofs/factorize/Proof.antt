@@ -7,7 +7,8 @@ use borrow.Author.Tests.{not-true, not-false}
 use borrow.Author.Needs.{needs}
 use Rattle.clauses.specs.Records.{counted, instancedOf}
 use Rattle.clauses.proofs.Records.{counted-facts}
-use Rattle.merging.specs.Results.{fitted, factorized}
+use Rattle.joining.specs.Fitted.{fitted}
+use Rattle.merging.specs.Results.{factorized}
 use Rattle.merging.proofs.Whole.{factored-low-high}
 use Rattle.merging.proofs.factorize.Statement.{statement}
 use Rattle.merging.proofs.factorize.Tie as tie

@@ -8,10 +8,12 @@ use borrow.Author.Needs.{needs}
 use Rattle.basis.specs.declared.Atom.{Atom}
 use Rattle.calculus.specs.Clauses.{renameAtom, under}
 use Rattle.clauses.specs.Records.{clauseOf}
-use Rattle.merging.specs.declared.Atoms.{Atoms}
-use Rattle.merging.specs.Scratch.{heldAtoms, addEach}
-use Rattle.merging.proofs.Held.{atoms-in, atoms-held}
-use Rattle.merging.proofs.Whole.{apart-none, addEach-distinct}
+use Rattle.joining.specs.declared.Atoms.{Atoms}
+use Rattle.joining.specs.Scratch.{heldAtoms}
+use Rattle.joining.proofs.Scratch.{atoms-in, apart-none}
+use Rattle.merging.specs.Added.{addEach}
+use Rattle.merging.proofs.Appending.{atoms-held}
+use Rattle.merging.proofs.Whole.{addEach-distinct}
 use Rattle.merging.proofs.first_atoms.Statement.{statement}
 use Rattle.merging.proofs.first_atoms.Tie as tie
 

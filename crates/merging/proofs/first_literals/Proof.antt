@@ -9,10 +9,10 @@ use Rattle.basis.specs.declared.Literal.{Literal}
 use Rattle.lists.specs.Lists.{without}
 use Rattle.calculus.specs.Clauses.{renameLiteral, under}
 use Rattle.clauses.specs.Records.{clauseOf}
-use Rattle.merging.specs.declared.Literals.{Literals}
-use Rattle.merging.specs.Scratch.{heldLiterals}
-use Rattle.merging.proofs.Held.{literals-in, literals-held}
-use Rattle.merging.proofs.Whole.{apart-none}
+use Rattle.joining.specs.declared.Literals.{Literals}
+use Rattle.joining.specs.Scratch.{heldLiterals}
+use Rattle.joining.proofs.Scratch.{literals-in, apart-none}
+use Rattle.merging.proofs.Appending.{literals-held}
 use Rattle.merging.proofs.first_literals.Statement.{statement}
 use Rattle.merging.proofs.first_literals.Tie as tie
 

@@ -6,9 +6,10 @@ use Prim.Native.Nat.{ℕ}
 use native.Mathlib.Omega.{arith}
 use lib.ListN.{take}
 use borrow.Author.Needs.{needs}
-use Rattle.merging.specs.declared.Names.{Names}
-use Rattle.merging.specs.Scratch.{heldNames}
-use Rattle.merging.proofs.Held.{names-in, names-held}
+use Rattle.joining.specs.declared.Names.{Names}
+use Rattle.joining.specs.Scratch.{heldNames}
+use Rattle.joining.proofs.Scratch.{names-in}
+use Rattle.merging.proofs.Appending.{names-held}
 use Rattle.merging.proofs.first_names.Statement.{statement}
 use Rattle.merging.proofs.first_names.Tie as tie
 

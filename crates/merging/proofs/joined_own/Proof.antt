@@ -10,8 +10,8 @@ use borrow.Author.Needs.{needs}
 use Rattle.lists.specs.Lists.{pairUp}
 use Rattle.calculus.specs.Clauses.{arguments, noLiteral, renameLiteral}
 use Rattle.calculus.specs.Merging.{joins}
+use Rattle.joining.proofs.Scratch.{apart-none}
 use Rattle.merging.proofs.Own.{joinedOwn, own-turn}
-use Rattle.merging.proofs.Whole.{apart-none}
 use Rattle.merging.proofs.joined_own.Statement.{statement}
 use Rattle.merging.proofs.joined_own.Tie as tie
 

@@ -9,7 +9,8 @@ use Rattle.basis.specs.declared.Literal.{Literal}
 use Rattle.calculus.specs.Clauses.{ground}
 use Rattle.calculus.specs.Merging.{ownPairs, reasonLiterals, ownIndex, merge, reason}
 use Rattle.clauses.specs.Records.{clauseOf}
-use Rattle.merging.specs.Results.{fitted, packedReason}
+use Rattle.joining.specs.Fitted.{fitted}
+use Rattle.merging.specs.Results.{packedReason}
 use Rattle.merging.proofs.Own.{stay-few}
 use Rattle.merging.proofs.Whole.{atoms-few, literals-few, few-atoms, merge-made, merge-limits}
 use Rattle.merging.proofs.reason_counted.Statement.{statement}

@@ -11,11 +11,11 @@ use lib.ListN.{getD, take, length-map}
 use borrow.Author.Needs.{needs}
 use Rattle.calculus.specs.Clauses.{noLiteral, renameLiteral, under}
 use Rattle.calculus.specs.Merging.{reasonLiterals}
-use Rattle.merging.specs.declared.Literals.{Literals}
-use Rattle.merging.specs.Scratch.{heldLiterals}
-use Rattle.merging.proofs.Held.{pushLiteral}
+use Rattle.joining.specs.declared.Literals.{Literals}
+use Rattle.joining.specs.Scratch.{heldLiterals}
+use Rattle.joining.proofs.Scratch.{apart-none}
+use Rattle.merging.proofs.Appending.{pushLiteral}
 use Rattle.merging.proofs.Own.{stay-few, stay-turn}
-use Rattle.merging.proofs.Whole.{apart-none}
 use Rattle.merging.proofs.reason_literals.Statement.{statement}
 use Rattle.merging.proofs.reason_literals.Tie as tie
 

@@ -11,7 +11,7 @@ use Rattle.lists.specs.Lists.{without, pairUp}
 use Rattle.calculus.specs.Clauses.{arguments, noLiteral, renameAtom, renameLiteral}
 use Rattle.calculus.specs.Merging.{joins, apart, resolvent}
 use Rattle.clauses.specs.Records.{clauseOf}
-use Rattle.merging.specs.Results.{fitted}
+use Rattle.joining.specs.Fitted.{fitted}
 use Rattle.merging.proofs.Whole.{atoms-few, literals-few, few-both-atoms, few-both-others, merge-made}
 use Rattle.merging.proofs.resolve_counted.Statement.{statement}
 use Rattle.merging.proofs.resolve_counted.Tie as tie

@@ -1,0 +1,68 @@
+-- `clauses::in_atoms` meets its contract.
+-- The invariant: what is made so far is what the definition makes of the elements passed; the measure: how many are left.
+use mathlib.Core.Path.{_≡_, refl, sym, _∙_}
+use mathlib.Core.Bool.{false, _||_}
+use Prim.Native.Nat.{_≤_, _-_}
+use native.Mathlib.Omega.{arith}
+use lib.Dec.{eqb}
+use lib.ListN.{take}
+use borrow.Author.Needs.{needs}
+use Rattle.basis.specs.Atoms.{noAtom}
+use Rattle.lists.specs.Lists.{anyOf}
+use Rattle.lists.proofs.Walks.{anyOf-not, anyOf-found}
+use Rattle.clauses.proofs.Counts.{counted-within}
+use Rattle.clauses.proofs.in_atoms.Statement.{statement}
+use Rattle.clauses.proofs.in_atoms.Tie as tie
+
+abbrev Inv-loop : tie.InvT-loop
+Inv-loop x c n j₀ j = (j ≤ n) × (anyOf (λ a. eqb x (a .p) || eqb x (a .q)) (take j (c .atoms)) ≡ false)
+
+abbrev μ-loop : tie.MeasureT-loop
+μ-loop x c n j₀ j = n - j
+
+atoms-of-requires : tie.Need-atoms-of-requires Inv-loop μ-loop
+atoms-of-requires c κs = search needs
+
+loop-holds : tie.Need-loop-holds Inv-loop μ-loop
+loop-holds c = (omega arith, refl)
+
+mul-a : tie.Need-mul-a Inv-loop μ-loop
+mul-a c = search needs
+
+element-copy-out-a : tie.Need-element-copy-out-a Inv-loop μ-loop
+element-copy-out-a c = search needs
+
+in-atom-requires : tie.Need-in-atom-requires Inv-loop μ-loop
+in-atom-requires c κs = search needs
+
+returns : tie.Need-returns Inv-loop μ-loop
+returns c = let a = c .before .before .before .before .before .before .args in sym (anyOf-found (λ b. eqb (a .x) (b .p) || eqb (a .x) (b .q)) (a .t1 .atoms) (c .before .before .before .before .loop .j) (a .t1 .atomcount) noAtom (omega (arith, counted-within (c .before .before .before .before .before .atoms-of .ensures))) (omega arith) (sym (c .before .in-atom .ensures) ∙ c .if1 .taken))
+
+add-j : tie.Need-add-j Inv-loop μ-loop
+add-j c = search needs
+
+loop-less : tie.Need-loop-less Inv-loop μ-loop
+loop-less c = search needs
+
+loop-again : tie.Need-loop-again Inv-loop μ-loop
+loop-again c = let a = c .before .before .before .before .before .before .args in (omega arith, anyOf-not (λ b. eqb (a .x) (b .p) || eqb (a .x) (b .q)) (a .t1 .atoms) (c .before .before .before .before .loop .j) noAtom (omega arith) (c .before .before .before .before .loop .inv .1) (sym (c .before .in-atom .ensures) ∙ c .if1 .left))
+
+returns-2 : tie.Need-returns-2 Inv-loop μ-loop
+returns-2 c = let n = c .before .before .atoms-of in let e : c .before .loop .j ≡ n .result = omega arith in rw (e, n .ensures .same) at (sym (c .before .loop .inv .1))
+
+pub in-atoms-spec : {M : Type 1} → statement M
+in-atoms-spec =
+    tie.close
+    (tie.spec
+    Inv-loop
+    μ-loop
+    atoms-of-requires
+    loop-holds
+    mul-a
+    element-copy-out-a
+    in-atom-requires
+    returns
+    add-j
+    loop-less
+    loop-again
+    returns-2)

@@ -1,0 +1,68 @@
+-- `clauses::in_literals` meets its contract.
+-- The invariant: what is made so far is what the definition makes of the elements passed; the measure: how many are left.
+use mathlib.Core.Path.{_≡_, refl, sym, _∙_}
+use mathlib.Core.Bool.{false}
+use Prim.Native.Nat.{_≤_, _-_}
+use native.Mathlib.Omega.{arith}
+use lib.Dec.{eqb}
+use lib.ListN.{take}
+use borrow.Author.Needs.{needs}
+use Rattle.lists.specs.Lists.{anyOf}
+use Rattle.lists.proofs.Walks.{anyOf-not, anyOf-found}
+use Rattle.calculus.specs.Clauses.{arguments, noLiteral}
+use Rattle.clauses.proofs.Counts.{counted-within}
+use Rattle.clauses.proofs.in_literals.Statement.{statement}
+use Rattle.clauses.proofs.in_literals.Tie as tie
+
+abbrev Inv-loop : tie.InvT-loop
+Inv-loop x c n j₀ j = (j ≤ n) × (anyOf (λ m. anyOf (eqb x) (arguments m)) (take j (c .literals)) ≡ false)
+
+abbrev μ-loop : tie.MeasureT-loop
+μ-loop x c n j₀ j = n - j
+
+literals-of-requires : tie.Need-literals-of-requires Inv-loop μ-loop
+literals-of-requires c κs = search needs
+
+loop-holds : tie.Need-loop-holds Inv-loop μ-loop
+loop-holds c = (omega arith, refl)
+
+mul-l : tie.Need-mul-l Inv-loop μ-loop
+mul-l c = search needs
+
+element-copy-out-l : tie.Need-element-copy-out-l Inv-loop μ-loop
+element-copy-out-l c = search needs
+
+in-literal-requires : tie.Need-in-literal-requires Inv-loop μ-loop
+in-literal-requires c κs = search needs
+
+returns : tie.Need-returns Inv-loop μ-loop
+returns c = let a = c .before .before .before .before .before .before .args in sym (anyOf-found (λ m. anyOf (eqb (a .x)) (arguments m)) (a .t1 .literals) (c .before .before .before .before .loop .j) (a .t1 .literalcount) noLiteral (omega (arith, counted-within (c .before .before .before .before .before .literals-of .ensures))) (omega arith) (sym (c .before .in-literal .ensures) ∙ c .if1 .taken))
+
+add-j : tie.Need-add-j Inv-loop μ-loop
+add-j c = search needs
+
+loop-less : tie.Need-loop-less Inv-loop μ-loop
+loop-less c = search needs
+
+loop-again : tie.Need-loop-again Inv-loop μ-loop
+loop-again c = let a = c .before .before .before .before .before .before .args in (omega arith, anyOf-not (λ m. anyOf (eqb (a .x)) (arguments m)) (a .t1 .literals) (c .before .before .before .before .loop .j) noLiteral (omega arith) (c .before .before .before .before .loop .inv .1) (sym (c .before .in-literal .ensures) ∙ c .if1 .left))
+
+returns-2 : tie.Need-returns-2 Inv-loop μ-loop
+returns-2 c = let n = c .before .before .literals-of in let e : c .before .loop .j ≡ n .result = omega arith in rw (e, n .ensures .same) at (sym (c .before .loop .inv .1))
+
+pub in-literals-spec : {M : Type 1} → statement M
+in-literals-spec =
+    tie.close
+    (tie.spec
+    Inv-loop
+    μ-loop
+    literals-of-requires
+    loop-holds
+    mul-l
+    element-copy-out-l
+    in-literal-requires
+    returns
+    add-j
+    loop-less
+    loop-again
+    returns-2)

@@ -1,0 +1,74 @@
+-- `joining::fit_atoms` meets its contract.
+-- The invariant: what is made so far is what the definition makes of the elements passed; the measure: how many are left.
+use mathlib.Core.Path.{_≡_, sym, _∙_, ap}
+use mathlib.Core.List.{List}
+use Prim.Native.Nat.{_≤_, _-_}
+use native.Mathlib.Omega.{arith}
+use lib.ListN.{getD, set, take}
+use borrow.Author.Needs.{needs}
+use Rattle.basis.specs.declared.Atom.{Atom}
+use Rattle.basis.specs.Atoms.{noAtom}
+use Rattle.lists.specs.Arrays.{exactly}
+use Rattle.lists.proofs.Arrays.{exactly-none, copied-turn}
+use Rattle.joining.proofs.fit_atoms.Statement.{statement}
+use Rattle.joining.proofs.fit_atoms.Tie as tie
+
+abbrev Inv-loop : tie.InvT-loop
+Inv-loop l n out₀ j₀ out j = (j ≤ n) × (out ≡ exactly 24 noAtom (take j (l .at)))
+
+abbrev μ-loop : tie.MeasureT-loop
+μ-loop l n out₀ j₀ out j = n - j
+
+count-atoms-requires : tie.Need-count-atoms-requires Inv-loop μ-loop
+count-atoms-requires c κs = search needs
+
+no-atom-requires : tie.Need-no-atom-requires Inv-loop μ-loop
+no-atom-requires c κs = search needs
+
+loop-holds : tie.Need-loop-holds Inv-loop μ-loop
+loop-holds c = (omega arith, rw (c .no-atom .ensures) (sym (exactly-none noAtom 24)))
+
+mul-a : tie.Need-mul-a Inv-loop μ-loop
+mul-a c = search needs
+
+element-copy-out-a : tie.Need-element-copy-out-a Inv-loop μ-loop
+element-copy-out-a c = search needs
+
+mul-out : tie.Need-mul-out Inv-loop μ-loop
+mul-out c = search needs
+
+array-set-from-out : tie.Need-array-set-from-out Inv-loop μ-loop
+array-set-from-out c = search needs
+
+add-j : tie.Need-add-j Inv-loop μ-loop
+add-j c = search needs
+
+loop-less : tie.Need-loop-less Inv-loop μ-loop
+loop-less c = search needs
+
+loop-again : tie.Need-loop-again Inv-loop μ-loop
+loop-again c =
+    let a = c .before .before .before .before .before .args in
+    let s = c .before .before .loop in
+    (omega arith, ap (λ (l : List Atom). set l (s .j) (getD (a .t1 .at) (s .j) noAtom)) (s .inv .1) ∙ copied-turn 24 noAtom (a .t1 .at) (s .j) (omega arith) (omega arith))
+
+returns : tie.Need-returns Inv-loop μ-loop
+returns c = let e : c .before .loop .j ≡ c .before .before .before .before .args .t1 .n = omega arith in rw e at (c .before .loop .inv .1)
+
+pub fit-atoms-spec : {M : Type 1} → statement M
+fit-atoms-spec =
+    tie.close
+    (tie.spec
+    Inv-loop
+    μ-loop
+    count-atoms-requires
+    no-atom-requires
+    loop-holds
+    mul-a
+    element-copy-out-a
+    mul-out
+    array-set-from-out
+    add-j
+    loop-less
+    loop-again
+    returns)

@@ -1,0 +1,3 @@
+-- The lists that a merge works on, and what it gives where that is within the limits.
+pub mod Scratch
+pub mod Fitted

@@ -1,2 +1,0 @@
--- Laws of gathering and weighing, and the proofs of the functions.
-pub mod Totals

@@ -1,2 +1,0 @@
--- The resolvent for other languages: what its number says.
-pub mod Export
