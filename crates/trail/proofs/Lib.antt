@@ -2,6 +2,3 @@
 pub mod Walks
 pub mod NotFalse
 pub mod Stored
-pub mod Atoms
-pub mod Others
-pub mod Asked

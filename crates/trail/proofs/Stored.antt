@@ -1,24 +1,23 @@
 -- A trail stored in an array: what an entry pushed or taken away does to it, and that the record of a trail says that trail.
 use mathlib.Core.Path.{_∙_, _≡_, ap, ap₂, refl, subst, sym}
 use mathlib.Core.List.{List, [], _++_, _∷_, map, map-append, reverse, reverse-cons, reverseAux-eq}
-use mathlib.Core.Bool.{false, true}
+use mathlib.Core.Bool.{Bool, cond, false, true}
 use Prim.Native.Nat.{_+_, _<_, _≤_, pred, suc, zero, ℕ}
 use native.Mathlib.Numerals.{add-one}
 use native.Mathlib.Omega.{arith}
+use lib.Dec.{leb}
 use lib.ListN.{getD, length, length-map, length-reverse, length-take, set, take}
-use lib.Seq.{getD-set-other, getD-set-same, length-take-le, take-all, take-suc}
-use borrow.Author.Tests.{le-leb, lt-leb}
+use lib.Seq.{getD-set-other, getD-set-same, take-suc}
 use Rattle.basis.specs.Atoms.{noAtom}
 use Rattle.basis.specs.Limits.{mostEntries, mostVariables}
-use Rattle.lists.proofs.Arrays.{exactly-length, exactly-take, map-exactly, set-exactly, take-exactly, unset-exactly}
+use Rattle.lists.proofs.Arrays.{exactly-length, map-exactly, set-exactly, take-exactly, unset-exactly}
 use Rattle.lists.specs.Arrays.{exactly}
-use Rattle.trail.specs.Answers.{Grew}
-use Rattle.trail.specs.Entries.{AllShort, Held, Recorded, Short, Stored, entryOf, noEntry, packedEntry, packedTrail, pastEnd, trailOf}
+use Rattle.trail.specs.Entries.{AllShort, OwnTrail, Recorded, Short, Stored, entryOf, blankEntry, packedEntry, packedTrail, pastEnd, trailOf}
 use Rattle.trail.specs.declared.Entry.{Entry}
-use Rattle.trail.specs.declared.Grown.{Grown}
 use Rattle.calculus.specs.Rules.{withoutLast}
 use Rattle.calculus.specs.Trails as calculus
-use Rattle.calculus.specs.Trails.{Trail, background, decided, foreground, propagated}
+use Rattle.calculus.specs.Trails.{Trail, background, cut, decided, decisions, foreground, propagated}
+use Rattle.trail.proofs.Walks.{trail-length}
 
 -- ---- one entry
 
@@ -38,10 +37,6 @@ record-short (foreground l (decided c n b τ)) = few-constants (length τ) τ
 
 -- ---- the array
 
-pub trail-length : (es : List Entry) (n : ℕ) → length (trailOf es n) ≡ n
-trail-length es zero = refl
-trail-length es (suc n) = ap suc (trail-length es n)
-
 -- A slot at or past the length is not seen.
 pub trail-unseen : (es : List Entry) (n i : ℕ) (x : Entry) → n ≤ i → trailOf (set es i x) n ≡ trailOf es n
 trail-unseen es zero i x h = refl
@@ -58,7 +53,7 @@ row-says es (suc n) h =
 
 pub packed-length : (t : Trail) → length (packedTrail t) ≡ mostEntries
 unfolding packedTrail
-packed-length t = exactly-length noEntry mostEntries (map packedEntry (reverse t))
+packed-length t = exactly-length blankEntry mostEntries (map packedEntry (reverse t))
 
 row-length : (t : Trail) → length (map packedEntry (reverse t)) ≡ length t
 row-length t = simp (length-map, length-reverse)
@@ -69,32 +64,23 @@ row-more x t = ap (map packedEntry) (reverseAux-eq t (x ∷ [])) ∙ map-append 
 pub packed-push : (x : calculus.Entry) (t : Trail) → length t < mostEntries → set (packedTrail t) (length t) (packedEntry x) ≡ packedTrail (x ∷ t)
 unfolding packedTrail
 packed-push x t h =
-    ap (λ n. set (exactly mostEntries noEntry (map packedEntry (reverse t))) n (packedEntry x)) (sym (row-length t))
-    ∙ set-exactly noEntry mostEntries (map packedEntry (reverse t)) (packedEntry x) (omega (arith, row-length t))
-    ∙ ap (exactly mostEntries noEntry) (sym (row-more x t))
+    ap (λ n. set (exactly mostEntries blankEntry (map packedEntry (reverse t))) n (packedEntry x)) (sym (row-length t))
+    ∙ set-exactly blankEntry mostEntries (map packedEntry (reverse t)) (packedEntry x) (omega (arith, row-length t))
+    ∙ ap (exactly mostEntries blankEntry) (sym (row-more x t))
 
-pub packed-drop : (x : calculus.Entry) (t : Trail) → set (packedTrail (x ∷ t)) (length t) noEntry ≡ packedTrail t
+pub packed-drop : (x : calculus.Entry) (t : Trail) → set (packedTrail (x ∷ t)) (length t) blankEntry ≡ packedTrail t
 unfolding packedTrail
 packed-drop x t =
-    ap₂ (λ r n. set (exactly mostEntries noEntry r) n noEntry) (row-more x t) (sym (row-length t))
-    ∙ unset-exactly noEntry mostEntries (map packedEntry (reverse t)) (packedEntry x)
-
--- The constants of an instance from place k′ on made blank, from the last on
-pub blanked : (l : List ℕ) (k k′ : ℕ) → length l ≡ mostVariables → k ≡ suc k′ → k ≤ mostVariables → set (exactly mostVariables 0 (take k l)) k′ 0 ≡ exactly mostVariables 0 (take k′ l)
-blanked l k k′ e q h =
-    ap₂ (λ r n. set (exactly mostVariables 0 r) n 0) (ap (λ n. take n l) q ∙ take-suc l k′ 0 (omega arith)) (sym (length-take-le k′ l (omega arith)))
-    ∙ unset-exactly 0 mostVariables (take k′ l) (getD l k′ 0)
-
-pub whole-constants : (l : List ℕ) → length l ≡ mostVariables → l ≡ exactly mostVariables 0 (take mostVariables l)
-whole-constants l e = sym (ap (exactly mostVariables 0) (take-all mostVariables l (omega arith)) ∙ exactly-take 0 mostVariables l (omega arith) ∙ take-all mostVariables l (omega arith))
+    ap₂ (λ r n. set (exactly mostEntries blankEntry r) n blankEntry) (row-more x t) (sym (row-length t))
+    ∙ unset-exactly blankEntry mostEntries (map packedEntry (reverse t)) (packedEntry x)
 
 -- ---- stored trails
 
 pub stored-length : {es : List Entry} {n : ℕ} {t : Trail} → Stored es n t → length t ≡ n
 stored-length {es} {n} S = ap length (sym (S .says)) ∙ trail-length es n
 
-pub stored-held : {es : List Entry} {n : ℕ} {t : Trail} → Stored es n t → Held es n
-stored-held S = record { few = S .few; says = refl; packed = S .packed ∙ ap packedTrail (sym (S .says)) }
+pub stored-own : {es : List Entry} {n : ℕ} {t : Trail} → Stored es n t → OwnTrail es n
+stored-own S = record { few = S .few; says = refl; packed = S .packed ∙ ap packedTrail (sym (S .says)) }
 
 pub stored-none : Stored (packedTrail []) 0 []
 stored-none = record { few = omega arith; says = refl; packed = refl }
@@ -111,18 +97,18 @@ stored-push {es} {n} {t} S h x s = record {
 pub stored-pushed : {es : List Entry} {n : ℕ} {t : Trail} {e : Entry} {x : calculus.Entry} → Stored es n t → n < mostEntries → Recorded e x → Stored (set es n e) (n + 1) (x ∷ t)
 stored-pushed {x = x} S h R = rw (add-one, R .is) (stored-push S h x (R .short))
 
-pub stored-drop : {es : List Entry} {n : ℕ} {x : calculus.Entry} {t : Trail} → Stored es (suc n) (x ∷ t) → Stored (set es n noEntry) n t
+pub stored-drop : {es : List Entry} {n : ℕ} {x : calculus.Entry} {t : Trail} → Stored es (suc n) (x ∷ t) → Stored (set es n blankEntry) n t
 stored-drop {es} {n} {x} {t} S = record {
   few = omega (arith, S .few);
-  says = trail-unseen es n n noEntry (omega arith) ∙ ap withoutLast (S .says);
-  packed = ap₂ (λ a k. set a k noEntry) (S .packed) (sym (ap pred (stored-length S))) ∙ packed-drop x t;
+  says = trail-unseen es n n blankEntry (omega arith) ∙ ap withoutLast (S .says);
+  packed = ap₂ (λ a k. set a k blankEntry) (S .packed) (sym (ap pred (stored-length S))) ∙ packed-drop x t;
 }
 
 -- The last of the first k entries of ts taken away
-pub stored-back : (es ts : List Entry) (k k′ : ℕ) (e : Entry) → k ≡ suc k′ → e ≡ noEntry → Stored es k (trailOf ts k) → Stored (set es k′ e) k′ (trailOf ts k′)
+pub stored-back : (es ts : List Entry) (k k′ : ℕ) (e : Entry) → k ≡ suc k′ → e ≡ blankEntry → Stored es k (trailOf ts k) → Stored (set es k′ e) k′ (trailOf ts k′)
 stored-back es ts k k′ e q b S = rw b (stored-drop (rw q at S))
 
-pub dropped : (es : List Entry) (n k : ℕ) (e : Entry) → n ≡ suc k → e ≡ noEntry → Held es n → Stored (set es k e) k (withoutLast (trailOf es n))
+pub dropped : (es : List Entry) (n k : ℕ) (e : Entry) → n ≡ suc k → e ≡ blankEntry → OwnTrail es n → Stored (set es k e) k (withoutLast (trailOf es n))
 dropped es n k e q b H = rw (q, b) (stored-drop (rw q at H))
 
 -- The record of a trail within the limits says that trail.
@@ -143,14 +129,33 @@ entry-short t k h =
     subst (λ a. Short (entryOf (getD a k pastEnd))) (map-exactly (background noAtom) packedEntry mostEntries (reverse t))
     (slot-short (exactly mostEntries (background noAtom) (reverse t)) k (omega (arith, exactly-length (background noAtom) mostEntries (reverse t))))
 
-pub held-short : (es : List Entry) (n k : ℕ) → Held es n → k ≤ n → AllShort (trailOf es k)
-held-short es n zero H h = tt
-held-short es n (suc k) H h = (subst (λ a. Short (entryOf (getD a k pastEnd))) (sym (H .packed)) (entry-short (trailOf es n) k (omega (arith, H .few))), held-short es n k H (omega arith))
+pub own-short : (es : List Entry) (n k : ℕ) → OwnTrail es n → k ≤ n → AllShort (trailOf es k)
+own-short es n zero H h = tt
+own-short es n (suc k) H h = (subst (λ a. Short (entryOf (getD a k pastEnd))) (sym (H .packed)) (entry-short (trailOf es n) k (omega (arith, H .few))), own-short es n k H (omega arith))
 
--- ---- what grows
+-- ---- the trail cut
 
-pub grew-none : {g : Grown} (t : Trail) → g .fits ≡ false → Stored (g .trail) (g .length) [] → mostEntries < length t → Grew g t
-grew-none t e S h = record { fits = e ∙ sym (lt-leb (length t) mostEntries h); holds = rw e S }
+-- What is kept of a trail are its first entries.
+pub cut-first : (es : List Entry) (i n : ℕ) → trailOf es (length (cut i (trailOf es n))) ≡ cut i (trailOf es n)
+cut-first es i zero = refl
+cut-first es i (suc n) = go (leb (decisions (trailOf es (suc n))) i) (cut-first es i n)
+  where
+    go : (b : Bool) → trailOf es (length (cut i (trailOf es n))) ≡ cut i (trailOf es n)
+        → trailOf es (length (cond b (trailOf es (suc n)) (cut i (trailOf es n)))) ≡ cond b (trailOf es (suc n)) (cut i (trailOf es n))
+    go true h = ap (trailOf es) (trail-length es (suc n))
+    go false h = h
 
-pub grew-all : {es : List Entry} {n : ℕ} {t : Trail} → Stored es n t → Grew (record { fits = true; length = n; trail = es }) t
-grew-all {es} {n} {t} S = record { fits = sym (le-leb (length t) mostEntries (omega (arith, stored-length S, S .few))); holds = S }
+pub cut-short : (i : ℕ) (t : Trail) → length (cut i t) ≤ length t
+cut-short i [] = omega arith
+cut-short i (e ∷ t) = go (leb (decisions (e ∷ t)) i) (cut-short i t)
+  where
+    go : (b : Bool) → length (cut i t) ≤ length t → length (cond b (e ∷ t) (cut i t)) ≤ suc (length t)
+    go true h = omega arith
+    go false h = omega arith
+
+pub kept-few : (es : List Entry) (i n : ℕ) → length (cut i (trailOf es n)) ≤ n
+kept-few es i n = omega (arith, cut-short i (trailOf es n), trail-length es n)
+
+-- Entries of ts taken away from the end down to those kept: the trail cut
+pub stored-cut : {es : List Entry} {k : ℕ} (ts : List Entry) (i n : ℕ) → k ≡ length (cut i (trailOf ts n)) → Stored es k (trailOf ts k) → Stored es k (cut i (trailOf ts n))
+stored-cut {es} {k} ts i n e S = subst (Stored es k) (ap (trailOf ts) e ∙ cut-first ts i n) S

@@ -8,7 +8,8 @@ use native.Mathlib.Nat.{max-eq-left, max-eq-right, max-le}
 use native.Mathlib.Numerals.{add-one}
 use native.Mathlib.Omega.{arith}
 use lib.Dec.{leb}
-use lib.ListN.{getD}
+use lib.ListN.{getD, length}
+use borrow.Author.Tests.{le-leb}
 use Rattle.basis.specs.declared.Literal.{Literal}
 use Rattle.lists.specs.Lists.{anyOf}
 use Rattle.trail.specs.Answers.{isAbout}
@@ -18,6 +19,10 @@ use Rattle.calculus.proofs.Levels.{decisions-more, level-le}
 use Rattle.calculus.specs.Clauses.{complement}
 use Rattle.calculus.specs.Trails as calculus
 use Rattle.calculus.specs.Trails.{Trail, cut, decisions, isDecision, isLiteral, largestLevel, levelOf, onTrail}
+
+pub trail-length : (es : List Entry) (n : ℕ) → length (trailOf es n) ≡ n
+trail-length es zero = refl
+trail-length es (suc n) = ap suc (trail-length es n)
 
 pub or-true : (b : Bool) → (b || true) ≡ true
 or-true true = refl
@@ -73,10 +78,33 @@ decisions-most es (suc k) = go (isDecision (entryOf (getD es k pastEnd))) (decis
     go true h = omega arith
     go false h = omega arith
 
-pub cut-turn : (es : List Entry) (i k d kept r : ℕ) → d ≡ decisions (trailOf es (k + 1)) → kept ≤ k → trailOf es kept ≡ cut i (trailOf es k) → r ≡ cond (leb d i) (k + 1) kept
-    → (r ≤ k + 1) × (trailOf es r ≡ cut i (trailOf es (k + 1)))
-cut-turn es i k d kept r e h c q = rw (q, e, add-one) (go (leb (decisions (trailOf es (suc k))) i))
+-- How many entries are kept where i is the largest level so far: up to the last with no more decisions than that
+pub kept-turn : (e : calculus.Entry) (t : Trail) (ls : List Literal)
+    → length (cut (largestLevel (e ∷ t) ls) (e ∷ t)) ≡ cond (leb (decisions (e ∷ t)) (largestLevel (e ∷ t) ls)) (length t + 1) (length (cut (largestLevel t ls) t))
+kept-turn e t ls = rw (largest-turn e t ls, add-one) (go (anyOf (λ l. isAbout l e) ls))
   where
-    go : (b : Bool) → (cond b (suc k) kept ≤ suc k) × (trailOf es (cond b (suc k) kept) ≡ cond b (trailOf es (suc k)) (cut i (trailOf es k)))
-    go true = (omega arith, refl)
-    go false = (omega arith, c)
+    d : ℕ
+    d = decisions (e ∷ t)
+
+    here : (b : Bool) → b ≡ true → length (cond b (e ∷ t) (cut d t)) ≡ cond b (suc (length t)) (length (cut (largestLevel t ls) t))
+    here true h = refl
+    here false h = absurd (let z : _≡_ {A = ℕ} 0 1 = cc in omega arith)
+
+    before : (b : Bool) → length (cond b (e ∷ t) (cut (largestLevel t ls) t)) ≡ cond b (suc (length t)) (length (cut (largestLevel t ls) t))
+    before true = refl
+    before false = refl
+
+    go : (a : Bool) → length (cut (cond a d (largestLevel t ls)) (e ∷ t)) ≡ cond (leb d (cond a d (largestLevel t ls))) (suc (length t)) (length (cut (largestLevel t ls) t))
+    go true = here (leb d d) (le-leb d d (omega arith))
+    go false = before (leb d (largestLevel t ls))
+
+pub kept-more : (es : List Entry) (ls : List Literal) (k d i kept r : ℕ) → d ≡ decisions (trailOf es (k + 1)) → i ≡ largestLevel (trailOf es (k + 1)) ls
+    → kept ≡ length (cut (largestLevel (trailOf es k) ls) (trailOf es k)) → r ≡ cond (leb d i) (k + 1) kept
+    → r ≡ length (cut (largestLevel (trailOf es (k + 1)) ls) (trailOf es (k + 1)))
+kept-more es ls k d i kept r p q e f =
+    let t = trailOf es k in
+    let x = entryOf (getD es k pastEnd) in
+    let p′ : d ≡ decisions (x ∷ t) = rw add-one at p in
+    let q′ : i ≡ largestLevel (x ∷ t) ls = rw add-one at q in
+    let turn = rw (trail-length es k) at (kept-turn x t ls) in
+    rw add-one (cc)

@@ -1,25 +1,15 @@
--- What the functions answer: the walk of refusal 12, what grows, and what the constraint test is asked.
-use mathlib.Core.Path.{_≡_}
-use mathlib.Core.Logic.{_↔_}
-use mathlib.Core.List.{List, [], _++_, List·Memᴰ}
-use mathlib.Core.Bool.{Bool, true, false, _&&_, _||_, cond}
-use Prim.Native.Nat.{ℕ, zero, _≤_}
-use lib.Dec.{T, leb}
-use lib.ListN.{length, take}
-use Rattle.basis.specs.declared.Atom.{Atom}
+-- What the functions answer: the walk of refusal 12, and levels.
+use mathlib.Core.List.{List}
+use mathlib.Core.Bool.{Bool, true, _&&_, _||_, cond}
+use Prim.Native.Nat.{ℕ, zero}
+use lib.ListN.{length}
 use Rattle.basis.specs.declared.Literal.{Literal}
-use Rattle.basis.specs.Limits.{mostConstants, mostEntries, mostLiterals, mostTested}
-use Rattle.basis.specs.Numbers.{whole}
-use Rattle.basis.specs.Atoms.{Proper, Possible}
 use Rattle.lists.specs.Lists.{allOf}
-use Rattle.lists.specs.Arrays.{exactly}
-use Rattle.calculus.specs.Clauses.{Clause, sameLiteral, complement, ground, groundAtoms, noLiteral}
-use Rattle.calculus.specs.Trails.{Trail, Entry, foreground, background, isLiteral, isFalse, atomsOf}
-use Rattle.calculus.specs.Rules.{firstFailing}
-use Rattle.trail.specs.declared.Grown.{Grown}
-use Rattle.trail.specs.declared.Instances.{Instances}
-use Rattle.trail.specs.declared.Tested.{Tested}
-use Rattle.trail.specs.Entries.{Stored}
+use Rattle.calculus.specs.Clauses.{Clause, Instanced, sameLiteral, complement, ground}
+use Rattle.calculus.specs.Trails.{Trail, Entry, isLiteral, isFalse, undefined, levelOf, cut}
+use Rattle.calculus.specs.Rules.{firstFailing, literalInstance, backLevel}
+use Rattle.trail.specs.declared.LiteralsSeen.{LiteralsSeen}
+use Rattle.trail.specs.declared.LevelsSeen.{LevelsSeen}
 
 -- The entry is the literal or its complement.
 abbrev pub isAbout : Literal → Entry → Bool
@@ -36,44 +26,12 @@ passes others own t τ m = others && sameLiteral (ground τ m) own || isFalse t 
 abbrev pub firstNumber : (Literal → Bool) → List Literal → ℕ
 firstNumber f ls = cond (allOf f ls) zero (firstFailing f ls)
 
--- ---- the instances of the conflict's other literals
+-- What Propagate asks of a trail: whether g is undefined, and the number of the first literal with another instance that is not false
+abbrev pub literalsSeen : Trail → Clause → List ℕ → Literal → LiteralsSeen
+literalsSeen t C τ g = record { free = undefined t g; first = firstNumber (passes true g t τ) (C .literals) }
 
-abbrev pub packedInstances : List Literal → Instances
-packedInstances ls = record { count = length ls; at = exactly mostLiterals noLiteral ls }
+-- ---- levels
 
--- The record of these ground literals, for which it has room
-pub record Listed (d : Instances) (ls : List Literal) : Type 0 where
-  pub few : length ls ≤ mostLiterals
-  pub packed : d ≡ packedInstances ls
-
--- ---- what grows
-
--- The trail t as it is stored where there is room for it; else no trail.
-pub record Grew (g : Grown) (t : Trail) : Type 0 where
-  pub fits : g .fits ≡ leb (length t) mostEntries
-  pub holds : Stored (g .trail) (g .length) (cond (g .fits) t [])
-
--- ---- the constraint test
-
-abbrev pub isBackground : Entry → Bool
-isBackground (foreground l o) = false
-isBackground (background a) = true
-
--- The atoms, at most so many, stand first in what is put to the test.
-pub record Gathers (t : Tested) (most : ℕ) (atoms : List Atom) : Type 0 where
-  pub long : length (t .atoms) ≡ mostTested
-  pub few : t .count ≤ most
-  pub says : take (t .count) (t .atoms) ≡ atoms
-
--- The constraint test takes the atoms.
-pub record Testable (constants : ℕ) (atoms : List Atom) : Type 0 where
-  pub few-constants : constants ≤ mostConstants
-  pub proper : (a : Atom) → List·Memᴰ a atoms → Proper constants a
-
--- "trail atoms and the clause's atoms together", those of the clause's instance under τ
-abbrev pub together : Trail → Clause → List ℕ → List Atom
-together t C τ = atomsOf t ++ groundAtoms τ (C .atoms)
-
--- The answer is yes exactly if the constraint test takes the atoms and they are possible.
-abbrev pub SaysPossible : ℕ → List Atom → Bool → Type 0
-SaysPossible constants atoms b = T b ↔ (Testable constants atoms × Possible whole constants atoms)
+-- What Backtrack asks of a trail: the level of L, the largest level i in D, and how many entries stand before decision i + 1
+abbrev pub levelsSeen : Instanced → ℕ → Trail → LevelsSeen
+levelsSeen N l t = record { own = levelOf (literalInstance N l) t; others = backLevel N l t; kept = length (cut (backLevel N l t) t) }

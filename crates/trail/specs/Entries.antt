@@ -15,8 +15,8 @@ use Rattle.trail.specs.declared.Kind.{Kind}
 use Rattle.trail.specs.declared.Kind.the-variants.{Background, Propagated, Decided}
 
 -- The blank entry stands in every slot past the trail's length.
-abbrev pub noEntry : Entry
-noEntry = record { kind = Background; atom = noAtom; literal = noLiteral; clause = 0; number = 0; sign = false; count = 0; instance = exactly mostVariables 0 [] }
+abbrev pub blankEntry : Entry
+blankEntry = record { kind = Background; atom = noAtom; literal = noLiteral; clause = 0; number = 0; sign = false; count = 0; instance = exactly mostVariables 0 [] }
 
 -- What a read past an array's end would give
 abbrev pub pastEnd : Entry
@@ -46,7 +46,7 @@ trailOf es (suc n) = entryOf (getD es n pastEnd) ∷ trailOf es n
 
 -- The array of a trail, blank past its length
 unfoldable pub packedTrail : Trail → List Entry
-packedTrail t = exactly mostEntries noEntry (map packedEntry (reverse t))
+packedTrail t = exactly mostEntries blankEntry (map packedEntry (reverse t))
 
 -- The array's first n entries are the trail t, and it is blank from there on.
 pub record Stored (es : List Entry) (n : ℕ) (t : Trail) : Type 0 where
@@ -55,8 +55,8 @@ pub record Stored (es : List Entry) (n : ℕ) (t : Trail) : Type 0 where
   pub packed : es ≡ packedTrail t
 
 -- Taken for granted of an array and its length where entries are added or taken away
-abbrev pub Held : List Entry → ℕ → Type 0
-Held es n = Stored es n (trailOf es n)
+abbrev pub OwnTrail : List Entry → ℕ → Type 0
+OwnTrail es n = Stored es n (trailOf es n)
 
 -- An entry's instance has at most 12 constants.
 abbrev pub Short : calculus.Entry → Type 0

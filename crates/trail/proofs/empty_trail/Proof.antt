@@ -4,16 +4,16 @@ use lib.ListN.{replicate}
 use borrow.Author.Needs.{needs}
 use Rattle.basis.specs.Limits.{mostEntries}
 use Rattle.lists.proofs.Arrays.{exactly-none}
-use Rattle.trail.specs.Entries.{noEntry, packedTrail}
+use Rattle.trail.specs.Entries.{blankEntry, packedTrail}
 use Rattle.trail.proofs.empty_trail.Statement.{statement}
 use Rattle.trail.proofs.empty_trail.Tie as tie
 
-no-entry-requires : tie.Need-no-entry-requires
-no-entry-requires c κs = search needs
+blank-entry-requires : tie.Need-blank-entry-requires
+blank-entry-requires c κs = search needs
 
 returns : tie.Need-returns
 unfolding packedTrail
-returns c = ap (replicate mostEntries) (c .no-entry .ensures) ∙ sym (exactly-none noEntry mostEntries)
+returns c = ap (replicate mostEntries) (c .blank-entry .ensures) ∙ sym (exactly-none blankEntry mostEntries)
 
 pub empty-trail-spec : {M : Type 1} → statement M
-empty-trail-spec = tie.close (tie.spec no-entry-requires returns)
+empty-trail-spec = tie.close (tie.spec blank-entry-requires returns)

@@ -1,0 +1,26 @@
+-- L's instance looked for among the others.
+use mathlib.Core.Path.{ap}
+use Rattle.lists.specs.Lists.{anyOf}
+use Rattle.calculus.specs.Clauses.{sameLiteral}
+use Rattle.calculus.specs.Rules.{literalInstance}
+use Rattle.clauses.specs.Records.{instancedOf}
+use Rattle.instances.proofs.Others.{listed-says}
+use borrow.Author.Needs.{needs}
+use Rattle.instances.proofs.again.Statement.{statement}
+use Rattle.instances.proofs.again.Tie as tie
+
+conflict-instance-requires : tie.Need-conflict-instance-requires
+conflict-instance-requires c κs = search needs
+
+other-instances-requires : tie.Need-other-instances-requires
+other-instances-requires c κs = search needs
+
+among-requires : tie.Need-among-requires
+among-requires c κs = search needs
+
+returns : tie.Need-returns
+returns c = rw (c .among .ensures, c .before .before .conflict-instance .ensures) (ap (anyOf (sameLiteral (literalInstance (instancedOf (c .before .before .before .args .n)) (c .before .before .before .args .l)))) (listed-says (c .before .other-instances .ensures)))
+
+pub again-spec : {M : Type 1} → statement M
+again-spec =
+    tie.close (tie.spec conflict-instance-requires other-instances-requires among-requires returns)

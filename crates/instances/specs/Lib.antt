@@ -1,0 +1,2 @@
+-- The record of ground literals.
+pub mod Listed

@@ -1,0 +1,96 @@
+-- Atoms gathered entry by entry and atom by atom, and what the record of them says.
+use mathlib.Core.Path.{_∙_, _≡_, ap, ap₂, refl, subst, sym}
+use mathlib.Core.List.{List, [], _++_, _∷_, append-assoc, append-nil, map}
+use mathlib.Core.Bool.{false, true}
+use Prim.Native.Nat.{_+_, _<_, _≤_, suc, zero, ℕ}
+use native.Mathlib.Numerals.{add-one}
+use native.Mathlib.Omega.{arith}
+use lib.ListN.{drop, getD, length, length-append, take}
+use lib.Seq.{drop-at, take-at, take-take}
+use Rattle.basis.specs.Atoms.{noAtom}
+use Rattle.basis.specs.Limits.{mostAtoms, mostEntries, mostTested}
+use Rattle.basis.specs.declared.Atom.{Atom}
+use Rattle.lists.proofs.Arrays.{take-exactly}
+use Rattle.lists.proofs.Walks.{map-more}
+use Rattle.lists.specs.Arrays.{exactly}
+use Rattle.calculus.specs.Trails as calculus
+use Rattle.calculus.specs.Trails.{Trail, atomsOf, background, foreground}
+use Rattle.trail.specs.Entries.{entryAs, entryOf, pastEnd, trailOf}
+use Rattle.trail.specs.declared.Entry.{Entry}
+use Rattle.trail.specs.declared.Kind.{Kind}
+use Rattle.trail.specs.declared.Kind.the-variants.{Background, Propagated, Decided}
+use Rattle.testing.specs.Asked.{Gathers, InRoom, isBackground, knownAtoms, stepAtoms, testedAtoms}
+use Rattle.testing.specs.declared.Tested.{Tested}
+
+-- ---- the walks
+
+background-is : (e : Entry) → isBackground (entryOf e) ≡ true → entryOf e ≡ background (e .atom)
+background-is e h = go (e .kind) h
+  where
+    go : (k : Kind) → isBackground (entryAs k e) ≡ true → entryAs k e ≡ background (e .atom)
+    go Background h = refl
+    go Propagated h = absurd (let z : _≡_ {A = ℕ} 0 1 = cc in omega arith)
+    go Decided h = absurd (let z : _≡_ {A = ℕ} 0 1 = cc in omega arith)
+
+no-atom-of : (e : calculus.Entry) (t : Trail) → isBackground e ≡ false → atomsOf (e ∷ t) ≡ atomsOf t
+no-atom-of (foreground l o) t h = refl
+no-atom-of (background a) t h = absurd (let z : _≡_ {A = ℕ} 0 1 = cc in omega arith)
+
+-- The next entry is an atom, or it has none.
+pub atoms-turn : (es : List Entry) (k : ℕ) → isBackground (entryOf (getD es k pastEnd)) ≡ true
+    → atomsOf (trailOf es (k + 1)) ≡ atomsOf (trailOf es k) ++ (getD es k pastEnd .atom ∷ [])
+atoms-turn es k b = ap (λ n. atomsOf (trailOf es n)) (add-one k) ∙ ap (λ x. atomsOf (x ∷ trailOf es k)) (background-is (getD es k pastEnd) b)
+
+pub atoms-skip : (es : List Entry) (k : ℕ) → isBackground (entryOf (getD es k pastEnd)) ≡ false → atomsOf (trailOf es (k + 1)) ≡ atomsOf (trailOf es k)
+atoms-skip es k b = ap (λ n. atomsOf (trailOf es n)) (add-one k) ∙ no-atom-of (entryOf (getD es k pastEnd)) (trailOf es k) b
+
+-- The clause's atoms follow.
+pub atoms-more : (f : Atom → Atom) (l : List Atom) (j : ℕ) (d : Atom) (before : List Atom) → j < length l
+    → before ++ map f (take (j + 1) l) ≡ (before ++ map f (take j l)) ++ (f (getD l j d) ∷ [])
+atoms-more f l j d before h = ap (λ r. before ++ r) (map-more f l j d h) ∙ sym (append-assoc before (map f (take j l)) (f (getD l j d) ∷ []))
+
+-- What stands first in the array; at first with nothing of the clause's behind it
+gathered-are : (n : ℕ) (at ts : List Atom) → n ≡ length ts → at ≡ exactly mostTested noAtom ts → length ts ≤ mostTested → take n at ≡ ts
+gathered-are n at ts p q h = ap₂ (λ (k : ℕ) r. take k r) p q ∙ take-exactly noAtom mostTested ts h
+
+pub gathered-first : (n : ℕ) (at ts : List Atom) → n ≡ length ts → at ≡ exactly mostTested noAtom ts → length ts ≤ mostTested → take n at ++ [] ≡ ts
+gathered-first n at ts p q h = append-nil (take n at) ∙ gathered-are n at ts p q h
+
+pub atoms-few : (es : List Entry) (k : ℕ) → length (atomsOf (trailOf es k)) ≤ k
+atoms-few es zero = omega arith
+atoms-few es (suc k) = omega (arith, go (entryOf (getD es k pastEnd)) (trailOf es k), atoms-few es k)
+  where
+    go : (e : calculus.Entry) (t : Trail) → length (atomsOf (e ∷ t)) ≤ suc (length (atomsOf t))
+    go (foreground l o) t = omega arith
+    go (background a) t = omega (arith, length-append (atomsOf t) (a ∷ []))
+
+-- Both gathered, the trail's first
+pub gathered-all : {n m : ℕ} {before after ts az : List Atom} → n ≡ length ts → before ≡ exactly mostTested noAtom ts → length ts ≤ mostEntries → length az ≤ mostAtoms
+    → m ≡ length (take n before ++ az) → after ≡ exactly mostTested noAtom (take n before ++ az) → Gathers (record { known = n; count = m; atoms = after }) ts az
+gathered-all {n} {m} {before} {after} {ts} {az} p q few few-step e f =
+    let first = gathered-are n before ts p q (omega arith) in
+    let count : m ≡ length (ts ++ az) = e ∙ ap (λ r. length (r ++ az)) first in
+    let atoms : after ≡ exactly mostTested noAtom (ts ++ az) = f ∙ ap (λ r. exactly mostTested noAtom (r ++ az)) first in
+    record { few-known = few; few-step = few-step; packed = λ i. record { known = p i; count = count i; atoms = atoms i } }
+
+-- ---- what the record says
+
+module _ {t : Tested} {ts az : List Atom} (G : Gathers t ts az) where
+  few : length (ts ++ az) ≤ mostTested
+  few = omega (arith, length-append ts az, G .few-known, G .few-step)
+
+  pub tested-says : testedAtoms t ≡ ts ++ az
+  tested-says = ap testedAtoms (G .packed) ∙ take-exactly noAtom mostTested (ts ++ az) few
+
+  pub known-says : knownAtoms t ≡ ts
+  known-says =
+      ap knownAtoms (G .packed)
+      ∙ sym (take-take (length ts) (length (ts ++ az)) (exactly mostTested noAtom (ts ++ az)) (omega (arith, length-append ts az)))
+      ∙ ap (take (length ts)) (take-exactly noAtom mostTested (ts ++ az) few)
+      ∙ take-at ts az (length ts) refl
+
+  pub step-says : stepAtoms t ≡ az
+  step-says = ap₂ (λ (k : ℕ) r. drop k r) (ap (λ r. r .known) (G .packed)) tested-says ∙ drop-at ts az (length ts) refl
+
+  pub in-room : InRoom t
+  in-room = subst InRoom (sym (G .packed)) (record { ordered = omega (arith, length-append ts az); few = few; few-step = omega (arith, length-append ts az, G .few-step) })

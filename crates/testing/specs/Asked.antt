@@ -1,0 +1,58 @@
+-- What the constraint test is asked, and what its yes says.
+use mathlib.Core.Path.{_≡_}
+use mathlib.Core.Logic.{_↔_}
+use mathlib.Core.List.{List, _++_, List·Memᴰ}
+use mathlib.Core.Bool.{Bool, true, false}
+use Prim.Native.Nat.{ℕ, _+_, _≤_}
+use lib.Dec.{T}
+use lib.ListN.{length, take, drop}
+use Rattle.basis.specs.declared.Atom.{Atom}
+use Rattle.basis.specs.Limits.{mostConstants, mostEntries, mostAtoms, mostTested}
+use Rattle.basis.specs.Numbers.{whole}
+use Rattle.basis.specs.Atoms.{noAtom, Proper, Possible}
+use Rattle.lists.specs.Arrays.{exactly}
+use Rattle.calculus.specs.Trails.{Entry, foreground, background}
+use Rattle.testing.specs.declared.Tested.{Tested}
+
+abbrev pub isBackground : Entry → Bool
+isBackground (foreground l o) = false
+isBackground (background a) = true
+
+-- ---- what is gathered
+
+-- The record of a trail's atoms and then a clause's, blank past them
+abbrev pub packedTested : List Atom → List Atom → Tested
+packedTested ts az = record { known = length ts; count = length (ts ++ az); atoms = exactly mostTested noAtom (ts ++ az) }
+
+-- The record of these atoms of a trail and of a clause, for which it has room
+pub record Gathers (t : Tested) (ts az : List Atom) : Type 0 where
+  pub few-known : length ts ≤ mostEntries
+  pub few-step : length az ≤ mostAtoms
+  pub packed : t ≡ packedTested ts az
+
+-- All atoms of a record, those of the trail, and those of the clause
+abbrev pub testedAtoms : Tested → List Atom
+testedAtoms t = take (t .count) (t .atoms)
+
+abbrev pub knownAtoms : Tested → List Atom
+knownAtoms t = take (t .known) (t .atoms)
+
+abbrev pub stepAtoms : Tested → List Atom
+stepAtoms t = drop (t .known) (testedAtoms t)
+
+-- The record counts no more atoms than there is room for, at most 24 of them a clause's.
+pub record InRoom (t : Tested) : Type 0 where
+  pub ordered : t .known ≤ t .count
+  pub few : t .count ≤ mostTested
+  pub few-step : t .count ≤ t .known + mostAtoms
+
+-- ---- the constraint test
+
+-- The constraint test takes the atoms.
+pub record Testable (constants : ℕ) (atoms : List Atom) : Type 0 where
+  pub few-constants : constants ≤ mostConstants
+  pub proper : (a : Atom) → List·Memᴰ a atoms → Proper constants a
+
+-- The answer is yes exactly if the constraint test takes the atoms and they are possible.
+abbrev pub SaysPossible : ℕ → List Atom → Bool → Type 0
+SaysPossible constants atoms b = T b ↔ (Testable constants atoms × Possible whole constants atoms)

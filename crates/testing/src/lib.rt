@@ -1,0 +1,138 @@
+// What the constraint test is asked: the trail's atoms from the first entry on, then the clause's; and which of them are new.
+ghost use mathlib.Core.Path.{_≡_};
+ghost use Prim.Native.Nat.{_≤_};
+ghost use lib.ListN.{take};
+ghost use Rattle.basis.specs.Limits.{mostEntries, mostTested};
+ghost use Rattle.calculus.specs.Clauses.{groundAtoms};
+ghost use Rattle.calculus.specs.Trails.{atomsOf};
+ghost use Rattle.clauses.specs.Records.{clauseOf};
+ghost use Rattle.trail.specs.Entries.{entryOf, trailOf};
+ghost use Rattle.testing.specs.Asked.{isBackground, testedAtoms, knownAtoms, stepAtoms, Gathers, InRoom, SaysPossible};
+ghost use Rattle.testing.specs.New.{newAtoms, packedNew};
+use basis::Atom;
+use basis::MOST_ATOMS;
+use basis::MOST_ENTRIES;
+use basis::MOST_TESTED;
+use basis::MOST_VARIABLES;
+use clauses::Clause;
+use clauses::atoms_of;
+use clauses::ground_atom;
+use clauses::no_atom;
+use clauses::same_atom;
+use constraint::Answer;
+use trail::Entry;
+use trail::Kind;
+
+// The atoms put to the constraint test: `known` of the trail, then the clause's, `count` in all; blank past them
+pub struct Tested {
+    pub known: u8,
+    pub count: u8,
+    pub atoms: [Atom; MOST_TESTED],
+}
+
+// Atoms not yet on the trail, blank past their count
+pub struct NewAtoms {
+    pub count: u8,
+    pub at: [Atom; MOST_ATOMS],
+}
+
+// Whether the entry is an atom
+fn is_background(e: Entry) -> bool
+    ensures { λ r. ⌜ r ≡ isBackground (entryOf e) ⌝ }
+{
+    let kind = e.kind;
+    match kind {
+        Kind::Background => true,
+        Kind::Propagated => false,
+        Kind::Decided => false,
+    }
+}
+
+// "trail atoms and the clause's atoms": the trail's from the first entry on, then those of the clause's instance in clause order
+pub fn gathered(
+    trail: [Entry; MOST_ENTRIES],
+    length: u8,
+    clause: Clause,
+    instance: [u8; MOST_VARIABLES],
+    count: u8,
+) -> Tested
+    requires { ⌜ length ≤ mostEntries ⌝ }
+    ensures { λ r. ⌜ Gathers r (atomsOf (trailOf trail length)) (groundAtoms (take count instance) (clauseOf clause .atoms)) ⌝ }
+{
+    let n = length as usize;
+    let own = atoms_of(clause);
+    let blank = no_atom();
+    let mut atoms = [blank; MOST_TESTED];
+    let mut m = 0;
+    let mut left = n;
+    while 0 < left {
+        let e = trail[n - left];
+        left -= 1;
+        if is_background(e) {
+            let a = e.atom;
+            atoms[m] = a;
+            m += 1;
+        }
+    }
+    let known = m as u8;
+    let mut j = 0;
+    while j < own {
+        let b = clause.atoms[j];
+        atoms[m] = ground_atom(b, instance, count);
+        m += 1;
+        j += 1;
+    }
+    let all = m as u8;
+    Tested {
+        known: known,
+        count: all,
+        atoms: atoms,
+    }
+}
+
+// Whether the atoms are such as the constraint test takes, and together possible
+pub fn possible(constants: u8, tested: Tested) -> bool
+    requires { ⌜ tested .count ≤ mostTested ⌝ }
+    ensures { λ r. ⌜ SaysPossible constants (testedAtoms tested) r ⌝ }
+{
+    let atoms = tested.atoms;
+    let answer = constraint::possible(constants, tested.count, atoms);
+    match answer {
+        Answer::Yes => true,
+        Answer::No => false,
+        Answer::Refused { number, place } => false,
+    }
+}
+
+// "the atoms not yet on the trail, in clause order, each once": those of the clause's that equal no earlier one
+pub fn new_atoms(tested: Tested) -> NewAtoms
+    requires { ⌜ InRoom tested ⌝ }
+    ensures { λ r. ⌜ r ≡ packedNew (newAtoms (knownAtoms tested) (stepAtoms tested)) ⌝ }
+{
+    let atoms = tested.atoms;
+    let n = tested.count as usize;
+    let blank = no_atom();
+    let mut at = [blank; MOST_ATOMS];
+    let mut m = 0;
+    let mut j = tested.known as usize;
+    'atoms: while j < n {
+        let a = atoms[j];
+        let mut i = 0;
+        while i < j {
+            let b = atoms[i];
+            if same_atom(a, b) {
+                j += 1;
+                continue 'atoms;
+            }
+            i += 1;
+        }
+        at[m] = a;
+        m += 1;
+        j += 1;
+    }
+    let found = m as u8;
+    NewAtoms {
+        count: found,
+        at: at,
+    }
+}
