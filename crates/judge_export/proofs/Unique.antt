@@ -1,5 +1,8 @@
 -- The exported functions' numbers, and what they leave of lent slices, are unique.
 use mathlib.Core.Path.{sym, ap, _∙_}
+use Rattle.basis.specs.Numbers.{whole}
+use Rattle.calculus.specs.Runs.{plain}
+use Rattle.calculus.proofs.Answers.{answer-unique}
 use Rattle.listing.specs.Lines.{lastLine}
 use Rattle.listing.specs.Listing.{mostListing}
 use Rattle.judging.specs.Judging.{inspected, mostInspection}
@@ -9,9 +12,9 @@ use Rattle.judge_export.specs.Export.{InspectsOnce, JudgesOnce, count, n
 
 pub judges-once : JudgesOnce
 judges-once s d d₁ d₂ r₁ r₂ (a, p, e) (b, q, f) =
-    let (same, left) = leaves-once lastLine mostListing s d d₁ d₂ a b p q in (e ∙ ap count same ∙ sym f, left)
+    let (same, left) = leaves-once (plain whole) (answer-unique whole) lastLine mostListing s d d₁ d₂ a b p q in (e ∙ ap count same ∙ sym f, left)
 
 pub inspects-once : InspectsOnce
 inspects-once s d l d₁ d₂ l₁ l₂ r₁ r₂ (a, p, e, g) (b, q, f, h) =
-    let (same, left) = leaves-once inspected mostInspection s d d₁ d₂ a b p q in
+    let (same, left) = leaves-once (plain whole) (answer-unique whole) inspected mostInspection s d d₁ d₂ a b p q in
     (e ∙ ap count same ∙ sym f, left, g ∙ ap (λ (w : Written). noted w l) same ∙ sym h)

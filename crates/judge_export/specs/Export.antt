@@ -6,7 +6,7 @@ use Prim.Native.Nat.{ℕ}
 use lib.Dec.{leb}
 use lib.ListN.{length}
 use lib.Seq.{sets}
-use Rattle.judging.specs.Judging.{Says, Shows}
+use Rattle.judging.specs.Judging.{Lists, Shows}
 use Rattle.judging.specs.declared.Written.{Written}
 use Rattle.judging.specs.declared.Written.the-variants.{Bytes, Short}
 
@@ -22,7 +22,7 @@ noted Short l = l
 
 -- `judge_file` of the file s, with the buffer d
 abbrev pub Judges : (s d d′ : List ℕ) → ℕ → Type 0
-Judges s d d′ r = (a : Written) × Says s d d′ a × (r ≡ count a)
+Judges s d d′ r = (a : Written) × Lists s d d′ a × (r ≡ count a)
 
 -- `inspect_file` of the file s, with the buffer d and the slice l
 abbrev pub Inspects : (s d l d′ l′ : List ℕ) → ℕ → Type 0

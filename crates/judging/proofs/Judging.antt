@@ -7,7 +7,9 @@ use native.Mathlib.Omega.{arith}
 use native.Mathlib.Nat.{zero-add}
 use lib.ListN.{length, drop, length-append}
 use lib.Seq.{sets-eq}
+use Rattle.basis.specs.Numbers.{whole}
 use Rattle.calculus.specs.Rules.{Answer}
+use Rattle.calculus.specs.Runs.{plain}
 use Rattle.fields.specs.declared.Cursor.the-variants as C
 use Rattle.header.specs.declared.HeaderRead.{HeaderRead}
 use Rattle.steps.specs.Records.{fileAnswer}
@@ -34,21 +36,21 @@ use Rattle.judging.specs.declared.Written.the-variants.{Bytes, Short}
 
 module _ {after : Answer → List ℕ} {most : ℕ} {s d d′ : List ℕ} {n k p : ℕ} (room : most ≤ length d) where
   -- A text written from the first byte on stands at the front, and the bytes past it stay.
-  at-front : {w : List ℕ} → Ends s k p → Printed after s w → length w ≤ most → Wrote d 0 w d′ n → Leaves after most s d d′ (Bytes n k p)
+  at-front : {w : List ℕ} → Ends (plain whole) s k p → Printed (plain whole) after s w → length w ≤ most → Wrote d 0 w d′ n → Leaves (plain whole) after most s d d′ (Bytes n k p)
   at-front {w} e q h a =
       let count : n ≡ length w = omega (arith, a .next) in
       (room, e, (w, q, count, a .left ∙ sets-eq w d 0 (omega arith) ∙ ap (λ (k : ℕ). w ++ drop k d) (zero-add (length w) ∙ sym count)))
 
   -- The steps' lines and what comes after them
   pub leaves-run : {d₁ v : List ℕ} {run : Run} {table : List Clause} {at : ℕ} (ran : Ran s d d₁ run table k p at) → v ≡ after (ran .answer) → at + length v ≤ most
-      → Wrote d₁ at v d′ n → Leaves after most s d d′ (Bytes n k p)
+      → Wrote d₁ at v d′ n → Leaves (plain whole) after most s d d′ (Bytes n k p)
   leaves-run {d₁} {v} ran e h a =
-      at-front (rw (ran .number-is) (rw (ran .place-is) (withStep (ran .says) (ran .next) (ran .answer) (ran .is) (ran .tried)))) (subst (λ (u : List ℕ). Printed after s (ran .lines ++ u)) (sym e) (goodFile (ran .says) (ran .next) (ran .answer) (ran .is) (ran .tried)))
+      at-front (rw (ran .number-is) (rw (ran .place-is) (withStep (ran .says) (ran .next) (ran .answer) (ran .is) (ran .tried)))) (subst (λ (u : List ℕ). Printed (plain whole) after s (ran .lines ++ u)) (sym e) (goodFile (ran .says) (ran .next) (ran .answer) (ran .is) (ran .tried)))
       (omega (arith, length-append (ran .lines) v, ran .wrote .next)) (and-then (ran .wrote) a)
 
   -- The refusal
   pub leaves-bad : (h : HeaderRead) → h ≡ fileAnswer s → h .at ≡ C.Refused k p → k < 256 → p < 18446744073709551616 → mostBad ≤ most
-      → Wrote d 0 (badLine k p) d′ n → Leaves after most s d d′ (Bytes n k p)
+      → Wrote d 0 (badLine k p) d′ n → Leaves (plain whole) after most s d d′ (Bytes n k p)
   leaves-bad h e q small low m a =
       let is = refused-file s h e k p q in at-front (withFile k p is) (badFile k p is) (omega (arith, length-bad k p small low)) a
 
@@ -57,8 +59,8 @@ pub bad-fits : (b : Bool) → mostBad ≤ mostText b
 bad-fits true = omega arith
 bad-fits false = omega arith
 
-pub leaves-as : {after : Answer → List ℕ} {most : ℕ} {s : List ℕ} (d : List ℕ) {d₁ d₂ : List ℕ} {n₁ n₂ k p : ℕ} → d₂ ≡ d₁ → n₂ ≡ n₁ → Leaves after most s d d₁ (Bytes n₁ k p) → Leaves after most s d d₂ (Bytes n₂ k p)
-leaves-as {after} {most} {s} d {k = k} {p} e n h = transport⁻¹ (λ i. Leaves after most s d (e i) (Bytes (n i) k p)) h
+pub leaves-as : {after : Answer → List ℕ} {most : ℕ} {s : List ℕ} (d : List ℕ) {d₁ d₂ : List ℕ} {n₁ n₂ k p : ℕ} → d₂ ≡ d₁ → n₂ ≡ n₁ → Leaves (plain whole) after most s d d₁ (Bytes n₁ k p) → Leaves (plain whole) after most s d d₂ (Bytes n₂ k p)
+leaves-as {after} {most} {s} d {k = k} {p} e n h = transport⁻¹ (λ i. Leaves (plain whole) after most s d (e i) (Bytes (n i) k p)) h
 
 -- After the steps: run and table are the records of the state that stands.
 module _ {s d d₁ : List ℕ} {run : Run} {table : List Clause} {k p at : ℕ} (ran : Ran s d d₁ run table k p at) where
@@ -86,12 +88,12 @@ module _ {s d d₁ : List ℕ} {run : Run} {table : List Clause} {k p at : ℕ} 
     state-fits false e h = absurd (true≢false (sym e))
 
     -- The listing
-    pub listed : (b : Bool) → b ≡ false → mostText b ≤ length d → Leaves (ending b) (mostText b) s d d₂ (Bytes m k p)
+    pub listed : (b : Bool) → b ≡ false → mostText b ≤ length d → Leaves (plain whole) (ending b) (mostText b) s d d₂ (Bytes m k p)
     listed true e h = absurd (true≢false e)
     listed false e h = leaves-run h ran last-line last-ends w
 
     -- .. and the final state after it
-    pub shown : (b : Bool) → b ≡ true → mostText b ≤ length d → {d₃ : List ℕ} {n : ℕ} → writing.Shows run table d₂ m d₃ n → Leaves (ending b) (mostText b) s d d₃ (Bytes n k p)
+    pub shown : (b : Bool) → b ≡ true → mostText b ≤ length d → {d₃ : List ℕ} {n : ℕ} → writing.PutsState run table d₂ m d₃ n → Leaves (plain whole) (ending b) (mostText b) s d d₃ (Bytes n k p)
     shown true e h u =
         let state = u (ran .answer .state) recorded in
         leaves-run h ran (ap (λ (v : List ℕ). v ++ stateText (ran .answer .state)) last-line)
@@ -101,18 +103,18 @@ module _ {s d d₁ : List ℕ} {run : Run} {table : List Clause} {k p at : ℕ} 
 
 -- The bytes written stand in the buffer.
 module _ (after : Answer → List ℕ) (most : ℕ) where
-  pub within : (s d d′ : List ℕ) (r : Written) (n : ℕ) {k p : ℕ} → r ≡ Bytes n k p → Leaves after most s d d′ r → n ≤ length d′
+  pub within : (s d d′ : List ℕ) (r : Written) (n : ℕ) {k p : ℕ} → r ≡ Bytes n k p → Leaves (plain whole) after most s d d′ r → n ≤ length d′
   within s d d′ (Bytes m l q) n e (room, f, (w, a, count, left)) = let z : m ≡ n = cc in omega (arith, ap length left, length-append w (drop m d))
   within s d d′ Short n e (short, left) = absurd (let z : _≡_ {A = ℕ} 0 1 = cc in omega arith)
 
 -- ---- the answer is unique
 
 pub leaves-once : LeavesOnce
-leaves-once after most s d d₁ d₂ (Bytes n k p) (Bytes m l q) (room₁, e, (v, a, count₁, left₁)) (room₂, f, (w, b, count₂, left₂)) =
-    let same = printed-once after s v w a b in
+leaves-once J once after most s d d₁ d₂ (Bytes n k p) (Bytes m l q) (room₁, e, (v, a, count₁, left₁)) (room₂, f, (w, b, count₂, left₂)) =
+    let same = printed-once J once after s v w a b in
     let count : n ≡ m = count₁ ∙ ap length same ∙ sym count₂ in
-    let (number, place) = ends-once s k p l q e f in
+    let (number, place) = ends-once J once s k p l q e f in
     ((λ i. Bytes (count i) (number i) (place i)), left₁ ∙ (λ i. same i ++ drop (count i) d) ∙ sym left₂)
-leaves-once after most s d d₁ d₂ (Bytes n k p) Short (room, e, u) (short, left) = absurd (omega arith)
-leaves-once after most s d d₁ d₂ Short (Bytes n k p) (short, left) (room, e, u) = absurd (omega arith)
-leaves-once after most s d d₁ d₂ Short Short (short₁, left₁) (short₂, left₂) = (refl, left₁ ∙ sym left₂)
+leaves-once J once after most s d d₁ d₂ (Bytes n k p) Short (room, e, u) (short, left) = absurd (omega arith)
+leaves-once J once after most s d d₁ d₂ Short (Bytes n k p) (short, left) (room, e, u) = absurd (omega arith)
+leaves-once J once after most s d d₁ d₂ Short Short (short₁, left₁) (short₂, left₂) = (refl, left₁ ∙ sym left₂)

@@ -2,12 +2,12 @@
 ghost use mathlib.Core.Path.{_≡_};
 ghost use Prim.Native.Nat.{_≤_};
 ghost use lib.ListN.{length};
+ghost use Rattle.basis.specs.Numbers.{whole};
+ghost use Rattle.calculus.specs.Runs.{plain};
 ghost use Rattle.fields.specs.declared.Cursor.the-variants as C;
 ghost use Rattle.steps.specs.Records.{fileAnswer};
-ghost use Rattle.judging.specs.Judging.{Leaves, Says, Shows};
+ghost use Rattle.judging.specs.Judging.{Leaves, Lists, Shows};
 ghost use Rattle.judging.specs.Running.{ending, mostText, placeOf};
-use basis::MOST_CLAUSES;
-use clauses::Clause;
 use fields::Cursor;
 use header::HeaderRead;
 use header::read_clauses;
@@ -16,18 +16,13 @@ use listing::put_accepted;
 use listing::put_bad;
 use listing::put_last;
 use listing::put_refused;
-use rules::Change;
-use rules::Run;
-use rules::Top;
-use rules::is_free;
 use rules::last_slot;
-use state::looked_at;
+use rules::looked_at;
+use rules::number_looked;
+use rules::slot_of;
 use state::new_run;
-use state::slot_of;
 use steps::read_file;
 use steps::step_at;
-use trail::empty_trail;
-use trail::no_entry;
 
 // What judging a file into a buffer answers: how many bytes were written, and the number and place that judging ended with; or that the buffer
 // is shorter than a text can be, and was left.
@@ -59,16 +54,14 @@ fn place_of(at: Cursor) -> usize
 }
 
 // Tries the steps of a file that is in order, a line for each. "It stops at a refused step." Then comes the last line, and the final state if
-// it is to be shown. The table stays here: a step is handed the one clause that it looks at, and only an accepted Backtrack writes it. What a
-// rule changes that tests no atoms is written in place: such a rule is handed the top of the run, and no trail.
+// it is to be shown. The table stays here: what a step looks at is copied out of it, and what it learns is written there.
 fn run_steps(file: &[u8], head: HeaderRead, first: usize, out: &mut [u8], shown: bool) -> Written
     requires { ⌜ (head ≡ fileAnswer (now file)) × (head .at ≡ C.At first) × (mostText shown ≤ length (now out)) ⌝ }
-    ensures { λ r. ⌜ Leaves (ending shown) (mostText shown) (now (file .entry)) (now (out .entry)) (now (out .exit)) r ⌝ }
+    ensures { λ r. ⌜ Leaves (plain whole) (ending shown) (mostText shown) (now (file .entry)) (now (out .entry)) (now (out .exit)) r ⌝ }
 {
     let n = head.steps as usize;
     let mut run = new_run(head.constants, head.input);
     let mut table = read_clauses(file);
-    let blank = empty_trail();
     let mut cursor = first;
     let mut at: usize = 0;
     let mut number: u8 = 0;
@@ -77,85 +70,39 @@ fn run_steps(file: &[u8], head: HeaderRead, first: usize, out: &mut [u8], shown:
     'steps: while j < n {
         let read = step_at(file, cursor);
         let x = read.step;
-        let past = read.at;
-        let slot = last_slot(run.length);
-        let last = run.trail[slot];
-        let k = slot_of(looked_at(last, x));
-        let clause = table[k];
-        let mut free = true;
-        if x.rule == 2 {
-            let trail = run.trail;
-            let instance = x.instance;
-            free = is_free(
-                trail,
-                run.length,
-                clause,
-                x.literal,
-                x.sign,
-                instance,
-                x.count,
-            );
-        }
-        let conflict = run.conflict;
-        let top = Top {
-            constants: run.constants,
-            input: run.input,
-            learned: run.learned,
-            level: run.level,
-            length: run.length,
-            stands: run.stands,
-            free: free,
-            last: last,
-            conflict: conflict,
+        let last = run.trail[last_slot(run.length)];
+        let c = number_looked(last, x);
+        let held = table[slot_of(c)];
+        let looked = looked_at(c, held);
+        let rule = x.rule;
+        let instance = x.instance;
+        let a = match rule {
+            1 => run.propagate(looked, x.clause, x.literal, instance, x.count),
+            2 => run.decide(looked, x.clause, x.literal, x.sign, instance, x.count),
+            3 => run.conflict(looked, x.clause, instance, x.count),
+            4 => run.resolve(looked, x.literal),
+            5 => run.factorize(x.literal, x.other),
+            6 => run.skip(),
+            7 => run.backtrack(x.literal),
+            8 => run.grow(x.amount),
+            _ => run.unknown(rule),
         };
-        let effect = top.effect(clause, x);
-        let change = effect.change;
-        match change {
-            Change::Whole => {
-                let a = run.step(clause, x);
-                if a.number != 0 {
-                    number = a.number;
-                    place = a.place;
-                    at = put_refused(out, at, j + 1, x, number);
-                    break 'steps;
-                }
-                if x.rule == 7 {
-                    let learned = conflict.clause;
-                    let next = run.input as usize + run.learned as usize;
-                    table[next] = learned;
-                }
-                run = a.run;
-            }
-            Change::Refused { number: why } => {
-                number = why;
-                at = put_refused(out, at, j + 1, x, number);
-                break 'steps;
-            }
-            Change::Decided => {
-                let entry = effect.entry;
-                let next = run.length as usize;
-                run.level += 1;
-                run.length += 1;
-                run.trail[next] = entry;
-            }
-            Change::Skipped { level } => {
-                let none = no_entry();
-                run.level = level;
-                run.length = slot as u8;
-                run.trail[slot] = none;
-            }
-            Change::Replaced => {
-                let replaced = effect.conflict;
-                run.conflict = replaced;
-            }
-            Change::Grown { constants } => {
-                run.constants = constants;
-                run.level = 0;
-                run.length = 0;
-                run.trail = blank;
-            }
+        if a.number != 0 {
+            number = a.number;
+            place = a.place;
+            at = put_refused(out, at, j + 1, x, number);
+            break 'steps;
         }
+        let learned = a.learned as usize;
+        if 0 < learned {
+            let conflict = run.conflict;
+            let clause = conflict.clause;
+            table[learned - 1] = clause;
+        }
+        let next = a.run;
+        run = next;
         at = put_accepted(out, at, j + 1, x, run.length, run.level);
+        let past = read.at;
         cursor = place_of(past);
         j += 1;
     }
@@ -176,7 +123,7 @@ fn run_steps(file: &[u8], head: HeaderRead, first: usize, out: &mut [u8], shown:
 // What is written of a file into a buffer that has room for every such text. The whole file is judged before the first step is tried.
 fn judged(file: &[u8], out: &mut [u8], shown: bool) -> Written
     requires { ⌜ mostText shown ≤ length (now out) ⌝ }
-    ensures { λ r. ⌜ Leaves (ending shown) (mostText shown) (now (file .entry)) (now (out .entry)) (now (out .exit)) r ⌝ }
+    ensures { λ r. ⌜ Leaves (plain whole) (ending shown) (mostText shown) (now (file .entry)) (now (out .entry)) (now (out .exit)) r ⌝ }
 {
     let head = read_file(file);
     let begin = head.at;
@@ -195,7 +142,7 @@ fn judged(file: &[u8], out: &mut [u8], shown: bool) -> Written
 
 // The listing of a file, written from the buffer's first byte on
 pub fn judge(file: &[u8], out: &mut [u8]) -> Written
-    ensures { λ r. ⌜ Says (now (file .entry)) (now (out .entry)) (now (out .exit)) r ⌝ }
+    ensures { λ r. ⌜ Lists (now (file .entry)) (now (out .entry)) (now (out .exit)) r ⌝ }
 {
     if out.len() < MOST_LISTING {
         return Written::Short;

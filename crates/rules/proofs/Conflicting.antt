@@ -1,14 +1,19 @@
 -- Conflict: each answer in terms of what the code has seen.
 use mathlib.Core.Path.{_∙_, _≡_, refl, subst, sym}
 use mathlib.Core.Logic.{_↔_}
-use mathlib.Core.List.{List, _++_}
-use mathlib.Core.Bool.{Bool, _&&_, false, true}
+use mathlib.Core.List.{List}
+use mathlib.Core.Bool.{Bool, _&&_, cond, false, not, true}
 use Prim.Native.Nat.{_+_, _<_, _≤_, ℕ}
 use native.Mathlib.Omega.{arith}
-use lib.Dec.{T, leb}
+use lib.Dec.{T, eqb, leb}
 use lib.ListN.{length, take}
-use Rattle.calculus.specs.Clauses as calculus
+use borrow.Author.Tests.{eqb-false, eqb-true, leb-false, leb-true, not-false, not-true}
 use Rattle.clauses.specs.declared.Clause.{Clause}
+use Rattle.rules.proofs.Asking.{and-so, asked, none, other-told, passed, place-told, positive}
+use Rattle.calculus.specs.Clauses as calculus
+use Rattle.rules.specs.Looking.{lookedAt}
+use Rattle.rules.specs.Records.{refusedAt, refusedBy}
+use Rattle.rules.specs.declared.Looked.{Looked}
 use Rattle.basis.specs.Atoms.{Possible}
 use Rattle.basis.specs.Limits.{mostVariables}
 use Rattle.basis.specs.Numbers.{whole}
@@ -24,16 +29,31 @@ use Rattle.calculus.specs.Rules.{allFalse, clauseExists, instanceFits, next, qu
 use Rattle.calculus.specs.States.{Conflict, State, Step, clauseAt, clauses, stands}
 use Rattle.calculus.specs.Trails.{atomsOf}
 use Rattle.clauses.specs.Records.{clauseOf, packed}
-use Rattle.rules.proofs.Naming.{and-true, asked-is, instance-is, instance-long, instance-short, named-packed}
-use Rattle.rules.proofs.Runs.{constants-is, input-is, learned-is, level-is, packed-as, standing, stands-is, stored}
+use Rattle.rules.proofs.Naming.{and-true, asked-is, instance-is, instance-long, instance-short, looks-named, named-packed}
+use Rattle.rules.proofs.Runs.{accepting, constants-is, input-is, learned-is, level-is, packed-as, standing, stands-is, stored}
 use Rattle.rules.proofs.Testing.{carry, not-zero, tested}
 use Rattle.rules.proofs.Told.{accepted-as, refused, refused-at, refused-by}
 use Rattle.trail.proofs.NotFalse.{its-number, none-fails, one-fails}
-use Rattle.trail.specs.Answers.{Testable, firstNumber, passes}
+use Rattle.testing.specs.Asked.{Gathers, SaysPossible, testedAtoms}
+use Rattle.testing.specs.declared.Tested.{Tested}
+use Rattle.trail.specs.Answers.{firstNumber, passes}
 use Rattle.trail.specs.Entries.{trailOf}
 
-module _ {r : Run} {s : State} (R : RunOf r s) (k : Clause) (c count : ℕ) (ι : List ℕ) (long : length ι ≡ 12) where
-  pub conflict-long : mostVariables < count → Told s (Conflict c (exactly count 0 ι)) (record { run = r; number = aboveLimit; place = 0 })
+-- The run with a conflict standing
+abbrev pub standingWith : Run → Clause → List ℕ → Run
+standingWith r k σ = record {
+  constants = r .constants;
+  input = r .input;
+  learned = r .learned;
+  level = r .level;
+  length = r .length;
+  stands = true;
+  trail = r .trail;
+  conflict = record { clause = k; instance = σ };
+}
+
+module _ {r : Run} {s : State} (R : RunOf r s) (k : Looked) (c count : ℕ) (ι : List ℕ) (long : length ι ≡ 12) where
+  conflict-long : mostVariables < count → Told s (Conflict c (exactly count 0 ι)) (refusedBy r aboveLimit)
   conflict-long h = refused R (Conflict c (exactly count 0 ι)) aboveLimit tt tt (λ b. rw (instance-long count ι h))
 
   module _ (h₁ : count ≤ mostVariables) where
@@ -49,10 +69,13 @@ module _ {r : Run} {s : State} (R : RunOf r s) (k : Clause) (c count : ℕ) (ι 
     short : leb (length υ) mostVariables ≡ true
     short = instance-short count ι (omega arith) h₁
 
-    pub conflict-standing : r .stands ≡ true → Told s (Conflict c (exactly count 0 ι)) (record { run = r; number = wrongMoment; place = 0 })
+    conflict-standing : r .stands ≡ true → Told s (Conflict c (exactly count 0 ι)) (refusedBy r wrongMoment)
     conflict-standing h = given (refused R y wrongMoment tt tt (λ b. simp (short, standing R h)))
 
-    module _ (h₂ : r .stands ≡ false) (looks : T (clauseExists (clauses s) c) → k ≡ packed (clauseAt (clauses s) c)) where
+    module _ (h₂ : r .stands ≡ false) (handed : k ≡ lookedAt s (Conflict c (exactly count 0 ι))) where
+      looks : T (clauseExists (clauses s) c) → k .clause ≡ packed (clauseAt (clauses s) c)
+      looks = looks-named s k c handed
+
       free : stands (s .conflict) ≡ false
       free = sym (stands-is R) ∙ h₂
 
@@ -61,44 +84,69 @@ module _ {r : Run} {s : State} (R : RunOf r s) (k : Clause) (c count : ℕ) (ι 
 
       -- What the code asks of the numbers
       abbrev Named : Bool
-      Named = between 1 (r .input + r .learned) c && instanceFits (r .constants) (clauseOf k) υ
+      Named = between 1 (r .input + r .learned) c && instanceFits (r .constants) (clauseOf (k .clause)) υ
 
       named : {b : Bool} → Named ≡ b → (clauseExists (clauses s) c && instanceFits (s .constants) D υ) ≡ b
-      named h = sym (asked-is R k c looks (λ n E. instanceFits n E υ)) ∙ h
+      named h = sym (asked-is R (k .clause) c looks (λ n E. instanceFits n E υ)) ∙ h
 
-      pub conflict-no-such : Named ≡ false → Told s (Conflict c (exactly count 0 ι)) (record { run = r; number = noSuch; place = 0 })
+      conflict-no-such : Named ≡ false → Told s (Conflict c (exactly count 0 ι)) (refusedBy r noSuch)
       conflict-no-such h = given (refused R y noSuch tt tt (λ b. simp (short, free, named h)))
 
-      module _ (h₃ : Named ≡ true) (z : Literal) (p : ℕ) (p-is : p ≡ firstNumber (passes false z (trailOf (r .trail) (r .length)) υ) (clauseOf k .literals)) where
+      module _ (h₃ : Named ≡ true) (z : Literal) (p : ℕ) (p-is : p ≡ firstNumber (passes false z (trailOf (r .trail) (r .length)) υ) (clauseOf (k .clause) .literals)) where
         there : between 1 (r .input + r .learned) c ≡ true
-        there = and-true (between 1 (r .input + r .learned) c) (instanceFits (r .constants) (clauseOf k) υ) h₃ .0
+        there = and-true (between 1 (r .input + r .learned) c) (instanceFits (r .constants) (clauseOf (k .clause)) υ) h₃ .0
 
         fits : instanceFits (s .constants) D υ ≡ true
         fits = and-true (clauseExists (clauses s) c) (instanceFits (s .constants) D υ) (named h₃) .1
 
         number-is : p ≡ firstNumber (passes false z (s .trail) υ) (D .literals)
-        number-is = carry R k c looks there (λ D t. p ≡ firstNumber (passes false z t υ) (D .literals)) p-is
+        number-is = carry R (k .clause) c looks there (λ D t. p ≡ firstNumber (passes false z t υ) (D .literals)) p-is
 
         some-not : 0 < p → ¬ (firstNumber (passes false z (s .trail) υ) (D .literals) ≡ 0)
         some-not h q = not-zero h (number-is ∙ q)
 
-        pub conflict-not-false : 0 < p → Told s (Conflict c (exactly count 0 ι)) (record { run = r; number = notFalse; place = p })
+        conflict-not-false : 0 < p → Told s (Conflict c (exactly count 0 ι)) (refusedAt r p)
         conflict-not-false h = given (refused-at R y p (number-is ∙ sym (its-number (passes false z (s .trail) υ) (D .literals) (some-not h)))
             (λ b. simp (short, free, named h₃, one-fails (passes false z (s .trail) υ) (D .literals) (some-not h))))
 
-        module _ (h₄ : p ≤ 0) (b : Bool)
-            (d : T b ↔ (Testable (r .constants) (atomsOf (trailOf (r .trail) (r .length)) ++ groundAtoms υ (clauseOf k .atoms)) × Possible whole (r .constants) (atomsOf (trailOf (r .trail) (r .length)) ++ groundAtoms υ (clauseOf k .atoms)))) where
+        module _ (h₄ : p ≤ 0) (w : Tested) (G : Gathers w (atomsOf (trailOf (r .trail) (r .length))) (groundAtoms υ (clauseOf (k .clause) .atoms))) (b : Bool) (d : SaysPossible (r .constants) (testedAtoms w) b) where
           all : allFalse (s .trail) υ (D .literals) ≡ true
           all = none-fails (passes false z (s .trail) υ) (D .literals) (sym number-is ∙ omega arith)
 
           says : T b ↔ Possible whole (s .constants) (question s y)
-          says = tested R k c looks there υ b fits d
+          says = tested R (k .clause) c looks there υ w G b d fits
 
-          pub conflict-impossible : b ≡ false → Told s (Conflict c (exactly count 0 ι)) (record { run = r; number = notPossible; place = 0 })
+          conflict-impossible : b ≡ false → Told s (Conflict c (exactly count 0 ι)) (refusedBy r notPossible)
           conflict-impossible h = given (refused-by R y b says notPossible tt tt (simp (short, free, named h₃, all, h)))
 
-          pub conflict-accepted : b ≡ true → (a : List ℕ) → a ≡ exactly mostVariables 0 υ
-              → Told s (Conflict c (exactly count 0 ι)) (record { run = record { constants = r .constants; input = r .input; learned = r .learned; level = r .level; length = r .length; stands = true; trail = r .trail; conflict = record { clause = k; instance = a } }; number = 0; place = 0 })
+          conflict-accepted : b ≡ true → (a : List ℕ) → a ≡ exactly mostVariables 0 υ
+              → Told s (Conflict c (exactly count 0 ι)) (accepting (standingWith r (k .clause) a))
           conflict-accepted h a q = given (accepted-as R y b says
               (simp (short, free, named h₃, all, h) (tt, (tt, (tt, (tt, (tt, tt))))))
-              _ (packed-as (next s y) (constants-is R) (input-is R) (learned-is R) (level-is R) refl (stored R) (λ i. record { clause = named-packed R k c looks there i; instance = q i })))
+              _ (packed-as (next s y) (constants-is R) (input-is R) (learned-is R) (level-is R) refl (stored R) (λ i. record { clause = named-packed R (k .clause) c looks there i; instance = q i })))
+
+  module _ (handed : k ≡ lookedAt s (Conflict c (exactly count 0 ι))) (a : Bool) (a-is : a ≡ (leb count mostVariables && (between 1 (r .input + r .learned) c && instanceFits (r .constants) (clauseOf (k .clause)) (take count ι))))
+      (z : Literal) (p : ℕ) (p-is : p ≡ firstNumber (passes false z (trailOf (r .trail) (r .length)) (take count ι)) (clauseOf (k .clause) .literals))
+      (w : Tested) (G : Gathers w (atomsOf (trailOf (r .trail) (r .length))) (groundAtoms (take count ι) (clauseOf (k .clause) .atoms))) (b : Bool) (d : SaysPossible (r .constants) (testedAtoms w) b) {n n₁ n₂ n₃ n₄ : ℕ}
+      (e₄ : n₄ ≡ cond b 0 notPossible) (e₃ : n₃ ≡ cond (eqb p 0) n₄ notFalse) (e₂ : n₂ ≡ cond a n₃ noSuch) (e₁ : n₁ ≡ cond (not (r .stands)) n₂ wrongMoment) (e₀ : n ≡ cond (leb count mostVariables) n₁ aboveLimit) where
+    is-named : leb count mostVariables ≡ true → {q : Bool} → a ≡ q → (between 1 (r .input + r .learned) c && instanceFits (r .constants) (clauseOf (k .clause)) (take count ι)) ≡ q
+    is-named t e = and-so (leb count mostVariables) (between 1 (r .input + r .learned) c && instanceFits (r .constants) (clauseOf (k .clause)) (take count ι)) t a-is e
+
+    pub conflict-refused : ¬ (n ≡ 0) → Told s (Conflict c (exactly count 0 ι)) (cond (eqb n notFalse) (refusedAt r p) (refusedBy r n))
+    conflict-refused h =
+        asked (leb count mostVariables) _ _ e₀ (λ f q. other-told p q tt (conflict-long (leb-false count mostVariables f))) (λ t₀ q₀. let h₁ = leb-true count mostVariables t₀ in
+        asked (not (r .stands)) _ _ e₁ (λ f q. other-told p (q₀ ∙ q) tt (conflict-standing h₁ (not-false (r .stands) f))) (λ t₁ q₁. let h₂ = not-true (r .stands) t₁ in
+        asked a _ _ e₂ (λ f q. other-told p (q₀ ∙ q₁ ∙ q) tt (conflict-no-such h₁ h₂ handed (is-named t₀ f))) (λ t₂ q₂.
+        asked (eqb p 0) _ _ e₃ (λ f q. place-told p (q₀ ∙ q₁ ∙ q₂ ∙ q) (conflict-not-false h₁ h₂ handed (is-named t₀ t₂) z p p-is (positive p (eqb-false p 0 f)))) (λ t₃ q₃. let h₄ = none p (eqb-true p 0 t₃) in
+        asked b _ _ e₄ (λ f q. other-told p (q₀ ∙ q₁ ∙ q₂ ∙ q₃ ∙ q) tt (conflict-impossible h₁ h₂ handed (is-named t₀ t₂) z p p-is h₄ w G b d f))
+        (λ t₄ q₄. absurd (h (q₀ ∙ q₁ ∙ q₂ ∙ q₃ ∙ q₄)))))))
+
+    pub conflict-told : n ≡ 0 → (σ : List ℕ) → σ ≡ exactly mostVariables 0 (take count ι)
+        → Told s (Conflict c (exactly count 0 ι)) (accepting (standingWith r (k .clause) σ))
+    conflict-told o σ q =
+        let (t₀, z₁) = passed (leb count mostVariables) _ _ e₀ tt o in
+        let (t₁, z₂) = passed (not (r .stands)) _ _ e₁ tt z₁ in
+        let (t₂, z₃) = passed a _ _ e₂ tt z₂ in
+        let (t₃, z₄) = passed (eqb p 0) _ _ e₃ tt z₃ in
+        let (t₄, z₅) = passed b _ _ e₄ tt z₄ in
+        conflict-accepted (leb-true count mostVariables t₀) (not-true (r .stands) t₁) handed (is-named t₀ t₂) z p p-is (none p (eqb-true p 0 t₃)) w G b d t₄ σ q

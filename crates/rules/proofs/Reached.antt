@@ -1,7 +1,7 @@
 -- What every state reached has, in the code's terms: everything fits its record, and the constraint test takes what it is asked.
 use mathlib.Core.Path.{_≡_, ap, refl, subst, sym}
 use mathlib.Core.Logic.{_⊎_, inl, inr}
-use mathlib.Core.List.{List, List·Memᴰ, List·Memᴰ·cases-cons, List·Memᴰ·head, List·Memᴰ·not-nil, List·Memᴰ·tail, Memᴰ·of-map, [], _∷_}
+use mathlib.Core.List.{List, List·Memᴰ, List·Memᴰ·append-cases, List·Memᴰ·eq-of-singleton, List·Memᴰ·head, List·Memᴰ·not-nil, List·Memᴰ·tail, Memᴰ·of-map, [], _∷_}
 use mathlib.Core.Option.{Option, none, some}
 use mathlib.Core.Bool.{Bool, _&&_, cond, false, true}
 use Prim.Native.Nat.{_+_, _<_, _≤_, suc, zero, ℕ}
@@ -16,7 +16,6 @@ use Rattle.basis.specs.Refusals.{accepted}
 use Rattle.basis.specs.declared.Atom.{Atom}
 use Rattle.lists.proofs.Members.{getD-mem}
 use Rattle.lists.proofs.Tests.{and-l, and-r}
-use Rattle.rules.specs.Answers.{Reached}
 use Rattle.calculus.proofs.Answers.{AllOk, acceptance, refused-hands-back}
 use Rattle.calculus.proofs.Demands.{inv-run, inv-start, run-input}
 use Rattle.calculus.proofs.Instances.{Sized}
@@ -30,6 +29,7 @@ use Rattle.calculus.specs.States.{Backtrack, Conflict, Decide, Factorize, Grow,
 use Rattle.calculus.specs.Trails.{Entry, Origin, Trail, appendAtoms, atomOnTrail, atomsOf, background, decided, decisions, foreground, isDecision, propagated}
 use Rattle.trail.specs.Entries.{AllShort}
 use Rattle.calculus.specs.Runs as runs
+use Rattle.calculus.specs.Runs.{Reached, plain}
 use Rattle.calculus.specs.Clauses as calculus
 
 -- ---- the trail
@@ -113,11 +113,11 @@ decisions-few (e ∷ t) = go (isDecision e) (decisions-few t)
 pub fine-atoms : (cs : List calculus.Clause) (n : ℕ) (t : Trail) → AllFine cs n t → (a : Atom) → List·Memᴰ a (atomsOf t) → Proper n a
 fine-atoms cs n [] f a k = absurd (List·Memᴰ·not-nil k)
 fine-atoms cs n (foreground l o ∷ t) f a k = fine-atoms cs n t (f .1) a k
-fine-atoms cs n (background b ∷ t) f a k = go (λ k. fine-atoms cs n t (f .1) a k) (List·Memᴰ·cases-cons k)
+fine-atoms cs n (background b ∷ t) f a k = go (λ k. fine-atoms cs n t (f .1) a k) (List·Memᴰ·append-cases (atomsOf t) k)
   where
-    go : (List·Memᴰ a (atomsOf t) → Proper n a) → (a ≡ b) ⊎ List·Memᴰ a (atomsOf t) → Proper n a
-    go ih (inl e) = subst (Proper n) (sym e) (f .0)
-    go ih (inr k) = ih k
+    go : (List·Memᴰ a (atomsOf t) → Proper n a) → List·Memᴰ a (atomsOf t) ⊎ List·Memᴰ a (b ∷ []) → Proper n a
+    go ih (inl k) = ih k
+    go ih (inr k) = subst (Proper n) (sym (List·Memᴰ·eq-of-singleton k)) (f .0)
 
 pub fine-short : (cs : List calculus.Clause) (n : ℕ) (t : Trail) → AllFine cs n t → AllShort t
 fine-short cs n [] f = tt
@@ -154,7 +154,7 @@ counts-judged s x a j h = elim (ℕ-discrete (a .number) accepted) [
   | no e ↦ subst Counts (sym (refused-hands-back whole s x a j e)) h
 ]
 
-counts-run : {s s′ : State} {xs : List Step} → runs.Run whole s xs s′ → Counts s → Counts s′
+counts-run : {s s′ : State} {xs : List Step} → runs.Run (plain whole) s xs s′ → Counts s → Counts s′
 counts-run (runs.over e) h = subst Counts e h
 counts-run {s = s} (runs.then {x = x} a j r) h = counts-run r (counts-judged s x a j h)
 
@@ -177,7 +177,7 @@ pub record FineState (s : State) : Type 0 where
   pub entries : AllFine (clauses s) (s .constants) (s .trail)
   pub conflict : (N : calculus.Instanced) → s .conflict ≡ some N → FineConflict (s .arities) (s .constants) N
 
-pub reached-fine : (s : State) → Reached s → FineState s
+pub reached-fine : (s : State) → Reached (plain whole) s → FineState s
 reached-fine s h = record {
   few-constants = counts .few-constants;
   few-input = omega (arith, ap (λ (cs : List calculus.Clause). length cs) (run-input (h .run) .0), h .admitted .few-clauses);

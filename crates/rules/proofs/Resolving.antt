@@ -5,19 +5,19 @@ use mathlib.Core.Option.{some}
 use mathlib.Core.Bool.{Bool, cond, false, true}
 use Prim.Native.Nat.{_-_, _<_, _≤_, suc, zero, ℕ}
 use native.Mathlib.Omega.{arith}
-use lib.Dec.{T}
+use lib.Dec.{T, ltb}
+use borrow.Author.Tests.{ltb-false, ltb-true}
 use lib.ListN.{getD, length, take}
 use lib.Seq.{take-length}
 use Rattle.basis.specs.Limits.{mostLiterals}
 use Rattle.basis.specs.Refusals.{noEntry, noRoom, noSuch, wrongLiteral, wrongMoment}
 use Rattle.basis.specs.declared.Literal.{Literal}
 use Rattle.lists.proofs.Tests.{and-l, and-r}
-use Rattle.rules.specs.Effects.{Done, changing, topOf}
-use Rattle.rules.specs.Answers.{IsLast, RunOf}
-use Rattle.rules.specs.Records.{isPropagated, packedRun}
-use Rattle.rules.specs.declared.Change.the-variants.{Refused, Replaced}
+use Rattle.rules.specs.Answers.{RunOf, Told}
+use Rattle.rules.specs.Looking.{heldAt, lastNamed, lookedAt}
+use Rattle.rules.specs.Records.{isPropagated, packedRun, refusedBy}
+use Rattle.rules.specs.declared.Looked.{Looked}
 use Rattle.rules.specs.declared.Run.{Run}
-use Rattle.rules.specs.declared.Top.{Top}
 use Rattle.calculus.proofs.Class.{limited-of, placed}
 use Rattle.calculus.proofs.Derived.{reason-sized}
 use Rattle.calculus.proofs.Instances.{Sized}
@@ -32,14 +32,17 @@ use Rattle.clauses.proofs.Records.{packed-instanced-says, packed-says}
 use Rattle.clauses.specs.Records.{clauseOf, instancedOf, packed, packedInstanced}
 use Rattle.clauses.specs.declared.Clause.{Clause}
 use Rattle.clauses.specs.declared.Instanced.{Instanced}
+use Rattle.joining.specs.Fitted.{fitted, tooLarge}
+use Rattle.joining.specs.declared.Merged.{Merged}
 use Rattle.merging.proofs.Own.{stay-few}
 use Rattle.merging.proofs.Whole.{merge-limits}
-use Rattle.merging.specs.Results.{fitted, reasonOf, resolved, tooLarge}
-use Rattle.merging.specs.declared.Merged.{Merged}
+use Rattle.merging.specs.Results.{reasonOf, resolved}
 use Rattle.rules.proofs.Reached.{AllFine, Fine}
-use Rattle.rules.proofs.Runs.{conflict-is, conflict-shown, fine, fine-conflict, last-shown, none-shown, stands-shown, with-conflict, within}
-use Rattle.rules.proofs.Told.{accepted-as, nothing-asked, refusing, unchanged}
-use Rattle.trail.specs.Entries.{entryAs, entryOf, trailOf}
+use Rattle.rules.proofs.Asking.{as-told, asked, passed}
+use Rattle.rules.proofs.Naming.{looks-named}
+use Rattle.rules.proofs.Runs.{accepting, conflict-is, conflict-says, fine, fine-conflict, last-shown, none-shown, remade, stands-shown, with-conflict, within}
+use Rattle.rules.proofs.Told.{accepted-as, nothing-asked, refused}
+use Rattle.trail.specs.Entries.{entryAs, entryOf, pastEnd, trailOf}
 use Rattle.trail.specs.declared.Kind.{Kind}
 use Rattle.merging.specs.declared.Reason as reasons
 use Rattle.calculus.specs.Clauses as calculus
@@ -102,105 +105,127 @@ resolved-is : (N R : calculus.Instanced) (j i : ℕ) → Limited (N .clause) →
 unfolding resolved
 resolved-is N R j i l e k f = simp (packed-instanced-says N l e, packed-instanced-says R k f, within (N .clause) l, within (R .clause) k)
 
-module _ (r : Run) (k : Clause) {t : Top} {b : Bool} (q : t ≡ topOf r b) (l : ℕ) where
-  pub resolve-no-conflict : t .stands ≡ false → Done r k 4 (Resolve l) (changing t (Refused wrongMoment))
-  resolve-no-conflict e = refusing r k q 4 (Resolve l) wrongMoment tt tt (λ s R _ a. rw (stands-shown R q e))
+module _ {r : Run} {s : State} (R : RunOf r s) (k : Looked) (l : ℕ) where
+  resolve-no-conflict : r .stands ≡ false → Told s (Resolve l) (refusedBy r wrongMoment)
+  resolve-no-conflict e = refused R (Resolve l) wrongMoment tt tt (λ a. rw (stands-shown R e))
 
-  abbrev E : entries.Entry
-  E = t .last
+  abbrev N : calculus.Instanced
+  N = conflictOf (s .conflict)
 
-  abbrev τ : List ℕ
-  τ = take (E .count) (E .instance)
+  module _ (e : r .stands ≡ true) where
+    exists : {a : Bool} → literalExists (clauseOf (r .conflict .clause)) l ≡ a → literalExists (N .clause) l ≡ a
+    exists {a} = subst (λ (n : calculus.Instanced). literalExists (n .clause) l ≡ a) (conflict-says R e)
 
-  module _ (e : t .stands ≡ true) where
-    exists : {s : State} (R : RunOf r s) {a : Bool} → literalExists (clauseOf (t .conflict .clause)) l ≡ a → literalExists (conflictOf (s .conflict) .clause) l ≡ a
-    exists R {a} = subst (λ (n : calculus.Instanced). literalExists (n .clause) l ≡ a) (conflict-shown R q e)
+    resolve-no-such : literalExists (clauseOf (r .conflict .clause)) l ≡ false → Told s (Resolve l) (refusedBy r noSuch)
+    resolve-no-such h = refused R (Resolve l) noSuch tt tt (λ a. simp (stands-shown R e, exists h))
 
-    pub resolve-no-such : literalExists (clauseOf (t .conflict .clause)) l ≡ false → Done r k 4 (Resolve l) (changing t (Refused noSuch))
-    resolve-no-such h = refusing r k q 4 (Resolve l) noSuch tt tt (λ s R _ a. simp (stands-shown R q e, exists R h))
+    module _ (h : literalExists (clauseOf (r .conflict .clause)) l ≡ true) where
+      resolve-no-entry : r .length < 1 → Told s (Resolve l) (refusedBy r noEntry)
+      resolve-no-entry f = refused R (Resolve l) noEntry tt tt (λ a. simp (stands-shown R e, exists h, none-shown R f))
 
-    module _ (h : literalExists (clauseOf (t .conflict .clause)) l ≡ true) where
-      pub resolve-no-entry : t .length < 1 → Done r k 4 (Resolve l) (changing t (Refused noEntry))
-      resolve-no-entry f = refusing r k q 4 (Resolve l) noEntry tt tt (λ s R _ a. simp (stands-shown R q e, exists R h, none-shown R q f))
+      -- The last entry stands in slot j.
+      module _ (f : 1 ≤ r .length) (j : ℕ) (j-is : j ≡ r .length - 1) where
+        abbrev E : entries.Entry
+        E = getD (r .trail) j pastEnd
 
-      module _ (f : 1 ≤ t .length) where
-        last-is : {s : State} (R : RunOf r s) {a : Bool} → isPropagated (E .kind) ≡ a → lastIsPropagated (s .trail) ≡ a
-        last-is R p = ap lastIsPropagated (last-shown R q f) ∙ last-propagated E (trailOf (r .trail) (r .length - 1)) ∙ p
+        abbrev τ : List ℕ
+        τ = take (E .count) (E .instance)
 
-        pub resolve-not-propagated : isPropagated (E .kind) ≡ false → Done r k 4 (Resolve l) (changing t (Refused noEntry))
-        resolve-not-propagated p = refusing r k q 4 (Resolve l) noEntry tt tt (λ s R _ a. simp (stands-shown R q e, exists R h, last-is R p))
+        last : s .trail ≡ entryOf E ∷ trailOf (r .trail) j
+        last = last-shown R j j-is f
+
+        last-is : {a : Bool} → isPropagated (E .kind) ≡ a → lastIsPropagated (s .trail) ≡ a
+        last-is p = ap lastIsPropagated last ∙ last-propagated E (trailOf (r .trail) j) ∙ p
+
+        resolve-not-propagated : isPropagated (E .kind) ≡ false → Told s (Resolve l) (refusedBy r noEntry)
+        resolve-not-propagated p = refused R (Resolve l) noEntry tt tt (λ a. simp (stands-shown R e, exists h, last-is p))
 
         module _ (p : isPropagated (E .kind) ≡ true) where
           -- The last entry, taken apart
-          split : {s : State} → RunOf r s → s .trail ≡ foreground (E .literal) (propagated (E .clause) (E .number) τ) ∷ trailOf (r .trail) (r .length - 1)
-          split R = last-shown R q f ∙ ap (λ (o : Kind). entryAs o E ∷ trailOf (r .trail) (r .length - 1)) (kind-propagated (E .kind) p)
+          split : s .trail ≡ foreground (E .literal) (propagated (E .clause) (E .number) τ) ∷ trailOf (r .trail) j
+          split = last ∙ ap (λ (o : Kind). entryAs o E ∷ trailOf (r .trail) j) (kind-propagated (E .kind) p)
 
-          same : {s : State} (R : RunOf r s) {a : Bool} → sameLiteral (complement (E .literal)) (literalInstance (instancedOf (t .conflict)) l) ≡ a
-              → sameLiteral (complement (lastLiteral (s .trail))) (literalInstance (conflictOf (s .conflict)) l) ≡ a
-          same {s} R {a} z = ap (λ (o : Trail). sameLiteral (complement (lastLiteral o)) (literalInstance (conflictOf (s .conflict)) l)) (split R)
-              ∙ subst (λ (n : calculus.Instanced). sameLiteral (complement (E .literal)) (literalInstance n l) ≡ a) (conflict-shown R q e) z
+          same : {a : Bool} → sameLiteral (complement (E .literal)) (literalInstance (instancedOf (r .conflict)) l) ≡ a → sameLiteral (complement (lastLiteral (s .trail))) (literalInstance N l) ≡ a
+          same {a} z = ap (λ (o : Trail). sameLiteral (complement (lastLiteral o)) (literalInstance N l)) split
+              ∙ subst (λ (n : calculus.Instanced). sameLiteral (complement (E .literal)) (literalInstance n l) ≡ a) (conflict-says R e) z
 
-          pub resolve-not-complement : sameLiteral (complement (E .literal)) (literalInstance (instancedOf (t .conflict)) l) ≡ false → Done r k 4 (Resolve l) (changing t (Refused wrongLiteral))
-          resolve-not-complement z = refusing r k q 4 (Resolve l) wrongLiteral tt tt (λ s R _ a. simp (stands-shown R q e, exists R h, last-is R p, same R z))
+          resolve-not-complement : sameLiteral (complement (E .literal)) (literalInstance (instancedOf (r .conflict)) l) ≡ false → Told s (Resolve l) (refusedBy r wrongLiteral)
+          resolve-not-complement z = refused R (Resolve l) wrongLiteral tt tt (λ a. simp (stands-shown R e, exists h, last-is p, same z))
 
-          module _ (d : sameLiteral (complement (E .literal)) (literalInstance (instancedOf (t .conflict)) l) ≡ true) where
-            -- .. at a state whose last entry's clause is handed over
-            module _ {s : State} (R : RunOf r s) (looks : IsLast (clauses s) (s .trail) k) where
-              abbrev N : calculus.Instanced
-              N = conflictOf (s .conflict)
+          module _ (d : sameLiteral (complement (E .literal)) (literalInstance (instancedOf (r .conflict)) l) ≡ true) (handed : k ≡ lookedAt s (Resolve l)) where
+            abbrev C : calculus.Clause
+            C = clauseAt (clauses s) (E .clause)
 
-              abbrev C : calculus.Clause
-              C = clauseAt (clauses s) (E .clause)
+            entry-fine : Fine (clauses s) (s .constants) (foreground (E .literal) (propagated (E .clause) (E .number) τ))
+            entry-fine = subst (AllFine (clauses s) (s .constants)) split (fine R .entries) .0
 
-              entry-fine : Fine (clauses s) (s .constants) (foreground (E .literal) (propagated (E .clause) (E .number) τ))
-              entry-fine = subst (AllFine (clauses s) (s .constants)) (split R) (fine R .entries) .0
+            clause-is : k .clause ≡ packed C
+            clause-is = looks-named s k (E .clause) (handed ∙ ap (λ (o : Trail). record { clause = packed (heldAt (clauses s) (lastNamed o)) }) split) (entry-fine .1)
 
-              handed : k ≡ packed C
-              handed = subst (λ (o : Trail). IsLast (clauses s) o k) (split R) looks
+            held : List·Memᴰ C (clauses s)
+            held = clause-held (clauses s) (E .clause) (entry-fine .1)
 
-              held : List·Memᴰ C (clauses s)
-              held = clause-held (clauses s) (E .clause) (entry-fine .1)
+            sized : Sized (s .constants) (C .variables) τ
+            sized = instance-sized (s .constants) C τ (and-r (literalExists C (E .number)) (instanceFits (s .constants) C τ) (entry-fine .2))
 
-              sized : Sized (s .constants) (C .variables) τ
-              sized = instance-sized (s .constants) C τ (and-r (literalExists C (E .number)) (instanceFits (s .constants) C τ) (entry-fine .2))
+            own : E .number - 1 < length (C .literals)
+            own = number-below (E .number) (length (C .literals)) (and-l (literalExists C (E .number)) (instanceFits (s .constants) C τ) (entry-fine .2))
 
-              own : E .number - 1 < length (C .literals)
-              own = number-below (E .number) (length (C .literals)) (and-l (literalExists C (E .number)) (instanceFits (s .constants) C τ) (entry-fine .2))
+            abbrev W : Reason
+            W = reason C (E .number - 1) τ
 
-              abbrev W : Reason
-              W = reason C (E .number - 1) τ
+            reason-is : reasonOf (k .clause) (E .number - 1) (E .instance) ≡ record { of = packedInstanced (W .of); own = W .own }
+            reason-is = ap (λ (c : Clause). reasonOf c (E .number - 1) (E .instance)) clause-is ∙ reasonOf-is C (E .number - 1) (E .instance) (fine R .limited C held)
+                ∙ ap (λ (σ : List ℕ). record { of = packedInstanced (reason C (E .number - 1) σ .of); own = reason C (E .number - 1) σ .own }) (take-again (E .count) (C .variables) (E .instance) (sized .size))
 
-              reason-is : reasonOf k (E .number - 1) (E .instance) ≡ record { of = packedInstanced (W .of); own = W .own }
-              reason-is = ap (λ (c : Clause). reasonOf c (E .number - 1) (E .instance)) handed ∙ reasonOf-is C (E .number - 1) (E .instance) (fine R .limited C held)
-                  ∙ ap (λ (σ : List ℕ). record { of = packedInstanced (reason C (E .number - 1) σ .of); own = reason C (E .number - 1) σ .own }) (take-again (E .count) (C .variables) (E .instance) (sized .size))
+            W-sized : Sized (s .constants) (W .of .clause .variables) (W .of .instance)
+            W-sized = reason-sized C (E .number - 1) τ (s .constants) own (placed (fine R .class C held)) sized
 
-              W-sized : Sized (s .constants) (W .of .clause .variables) (W .of .instance)
-              W-sized = reason-sized C (E .number - 1) τ (s .constants) own (placed (fine R .class C held)) sized
+            abbrev M : calculus.Instanced
+            M = resolvent N (l - 1) (W .of) (W .own)
 
-              abbrev M : calculus.Instanced
-              M = resolvent N (l - 1) (W .of) (W .own)
+            next-is : next s (Resolve l) ≡ updated s (s .trail) (s .level) (some M)
+            next-is = ap (λ (o : Trail). updated s (s .trail) (s .level) (some (resolvent N (l - 1) (lastReason (clauses s) o .of) (lastReason (clauses s) o .own)))) split
 
-              merged-is : {m : Merged} → m ≡ resolved (t .conflict) (l - 1) (reasonOf k (E .number - 1) (E .instance) .of) (reasonOf k (E .number - 1) (E .instance) .own) → m ≡ fitted M
-              merged-is g = let n = fine-conflict R (rw q at e) in g ∙ ap (λ (w : reasons.Reason). resolved (t .conflict) (l - 1) (w .of) (w .own)) reason-is
-                  ∙ ap (λ (n : Instanced). resolved n (l - 1) (packedInstanced (W .of)) (W .own)) (unchanged r q .1 ∙ conflict-is R)
-                  ∙ resolved-is N (W .of) (l - 1) (W .own) (n .limited) (n .sized .size) (reason-limited C (E .number - 1) τ (fine R .limited C held)) (W-sized .size)
+            module _ (m : Merged) (g : m ≡ resolved (r .conflict) (l - 1) (reasonOf (k .clause) (E .number - 1) (E .instance) .of) (reasonOf (k .clause) (E .number - 1) (E .instance) .own)) where
+              merged-is : m ≡ fitted M
+              merged-is = g ∙ ap (λ (w : reasons.Reason). resolved (r .conflict) (l - 1) (w .of) (w .own)) reason-is
+                  ∙ ap (λ (n : Instanced). resolved n (l - 1) (packedInstanced (W .of)) (W .own)) (conflict-is R)
+                  ∙ resolved-is N (W .of) (l - 1) (W .own) (fine-conflict R e .limited) (fine-conflict R e .sized .size) (reason-limited C (E .number - 1) τ (fine R .limited C held)) (W-sized .size)
 
-              next-is : next s (Resolve l) ≡ updated s (s .trail) (s .level) (some M)
-              next-is = ap (λ (o : Trail). updated s (s .trail) (s .level) (some (resolvent N (l - 1) (lastReason (clauses s) o .of) (lastReason (clauses s) o .own)))) (split R)
+              limits : {a : Bool} → m .fits ≡ a → withinLimits (conflictOf (next s (Resolve l) .conflict) .clause) ≡ a
+              limits z = ap (λ (o : State). withinLimits (conflictOf (o .conflict) .clause)) next-is ∙ sym (fits-is M) ∙ ap (λ (w : Merged). w .fits) (sym merged-is) ∙ z
 
-              limits : {a : Bool} (m : Merged) → m ≡ fitted M → m .fits ≡ a → withinLimits (conflictOf (next s (Resolve l) .conflict) .clause) ≡ a
-              limits m g z = ap (λ (o : State). withinLimits (conflictOf (o .conflict) .clause)) next-is ∙ sym (fits-is M) ∙ ap (λ (w : Merged). w .fits) (sym g) ∙ z
+              resolve-no-room : m .fits ≡ false → Told s (Resolve l) (refusedBy r noRoom)
+              resolve-no-room z = refused R (Resolve l) noRoom tt tt (λ a. simp (stands-shown R e, exists h, last-is p, same d, limits z))
 
-            module _ (m : Merged) (g : m ≡ resolved (t .conflict) (l - 1) (reasonOf k (E .number - 1) (E .instance) .of) (reasonOf k (E .number - 1) (E .instance) .own)) where
-              pub resolve-no-room : m .fits ≡ false → Done r k 4 (Resolve l) (changing t (Refused noRoom))
-              resolve-no-room z = refusing r k q 4 (Resolve l) noRoom tt tt (λ s R looks a. simp (stands-shown R q e, exists R h, last-is R p, same R d, limits R looks m (merged-is R looks g) z))
+              resolve-accepted : m .fits ≡ true → Told s (Resolve l) (accepting (remade r (r .constants) (r .level) (r .length) (r .trail) (m .of)))
+              resolve-accepted z = accepted-as R (Resolve l) true (nothing-asked s (Resolve l) refl)
+                  (rw (stands-shown R e) tt, (rw (exists h) tt, (rw (last-is p) tt, (rw (same d) tt, (rw (limits z) tt, tt)))))
+                  _ (with-conflict R (m .of) M e (ap (λ (w : Merged). w .of) merged-is ∙ fitted-of M (sym (fits-is M) ∙ ap (λ (w : Merged). w .fits) (sym merged-is) ∙ z)) ∙ ap packedRun (sym next-is))
 
-              pub resolve-accepted : m .fits ≡ true → Done r k 4 (Resolve l) (record { change = Replaced; entry = t .last; conflict = m .of })
-              resolve-accepted z = record {
-                by = tt;
-                fits = tt;
-                idle = unchanged r q .0;
-                answers = λ _ s R looks. let is = merged-is R looks g in accepted-as R (Resolve l) true (nothing-asked s (Resolve l) refl)
-                    (rw (stands-shown R q e) tt, (rw (exists R h) tt, (rw (last-is R p) tt, (rw (same R d) tt, (rw (limits R looks m is z) tt, tt)))))
-                    _ (with-conflict R (m .of) (M R looks) (rw q at e) (ap (λ (w : Merged). w .of) is ∙ fitted-of (M R looks) (sym (fits-is (M R looks)) ∙ ap (λ (w : Merged). w .fits) (sym is) ∙ z)) ∙ ap packedRun (sym (next-is R looks)));
-              }
+  -- The last entry stands in slot j.
+  module _ (handed : k ≡ lookedAt s (Resolve l)) (j : ℕ) (j-is : j ≡ r .length - 1) (a b d : Bool) (a-is : a ≡ literalExists (clauseOf (r .conflict .clause)) l) (b-is : b ≡ isPropagated (getD (r .trail) j pastEnd .kind))
+      (d-is : d ≡ sameLiteral (complement (getD (r .trail) j pastEnd .literal)) (literalInstance (instancedOf (r .conflict)) l)) (m : Merged)
+      (m-is : m ≡ resolved (r .conflict) (l - 1) (reasonOf (k .clause) (getD (r .trail) j pastEnd .number - 1) (getD (r .trail) j pastEnd .instance) .of) (reasonOf (k .clause) (getD (r .trail) j pastEnd .number - 1) (getD (r .trail) j pastEnd .instance) .own))
+      {n n₁ n₂ n₃ n₄ n₅ : ℕ} (e₅ : n₅ ≡ cond (m .fits) 0 noRoom) (e₄ : n₄ ≡ cond d n₅ wrongLiteral) (e₃ : n₃ ≡ cond b n₄ noEntry) (e₂ : n₂ ≡ cond (ltb 0 (r .length)) n₃ noEntry) (e₁ : n₁ ≡ cond a n₂ noSuch)
+      (e₀ : n ≡ cond (r .stands) n₁ wrongMoment) where
+    pub resolve-refused : ¬ (n ≡ 0) → Told s (Resolve l) (refusedBy r n)
+    resolve-refused h =
+        asked (r .stands) _ _ e₀ (λ f q. as-told q (resolve-no-conflict f)) (λ t₀ q₀.
+        asked a _ _ e₁ (λ f q. as-told (q₀ ∙ q) (resolve-no-such t₀ (sym a-is ∙ f))) (λ t₁ q₁.
+        asked (ltb 0 (r .length)) _ _ e₂ (λ f q. as-told (q₀ ∙ q₁ ∙ q) (resolve-no-entry t₀ (sym a-is ∙ t₁) (omega (arith, ltb-false 0 (r .length) f)))) (λ t₂ q₂.
+        asked b _ _ e₃ (λ f q. as-told (q₀ ∙ q₁ ∙ q₂ ∙ q) (resolve-not-propagated t₀ (sym a-is ∙ t₁) (ltb-true 0 (r .length) t₂) j j-is (sym b-is ∙ f))) (λ t₃ q₃.
+        asked d _ _ e₄ (λ f q. as-told (q₀ ∙ q₁ ∙ q₂ ∙ q₃ ∙ q) (resolve-not-complement t₀ (sym a-is ∙ t₁) (ltb-true 0 (r .length) t₂) j j-is (sym b-is ∙ t₃) (sym d-is ∙ f))) (λ t₄ q₄.
+        asked (m .fits) _ _ e₅ (λ f q. as-told (q₀ ∙ q₁ ∙ q₂ ∙ q₃ ∙ q₄ ∙ q) (resolve-no-room t₀ (sym a-is ∙ t₁) (ltb-true 0 (r .length) t₂) j j-is (sym b-is ∙ t₃) (sym d-is ∙ t₄) handed m m-is f))
+        (λ t₅ q₅. absurd (h (q₀ ∙ q₁ ∙ q₂ ∙ q₃ ∙ q₄ ∙ q₅))))))))
+
+    pub resolve-told : n ≡ 0 → Told s (Resolve l) (accepting (remade r (r .constants) (r .level) (r .length) (r .trail) (m .of)))
+    resolve-told o =
+        let (t₀, z₁) = passed (r .stands) _ _ e₀ tt o in
+        let (t₁, z₂) = passed a _ _ e₁ tt z₁ in
+        let (t₂, z₃) = passed (ltb 0 (r .length)) _ _ e₂ tt z₂ in
+        let (t₃, z₄) = passed b _ _ e₃ tt z₃ in
+        let (t₄, z₅) = passed d _ _ e₄ tt z₄ in
+        let (t₅, z₆) = passed (m .fits) _ _ e₅ tt z₅ in
+        resolve-accepted t₀ (sym a-is ∙ t₁) (ltb-true 0 (r .length) t₂) j j-is (sym b-is ∙ t₃) (sym d-is ∙ t₄) handed m m-is t₅

@@ -7,13 +7,13 @@ use Prim.Native.Nat.{_+_, _-_, _<_, _≤_, suc, zero, ℕ}
 use native.Mathlib.Omega.{arith}
 use lib.Dec.{T, leb, le→leb}
 use lib.ListN.{getD, length, length-append}
+use Rattle.basis.specs.Refusals.{accepted}
 use Rattle.basis.specs.Limits.{mostAtoms, mostConstants, mostEntries, mostInput, mostLearned, mostLiterals, mostVariables}
 use Rattle.lists.proofs.Tests.{T→eq, and-i}
 use Rattle.rules.specs.Answers.{Kept, RunOf}
-use Rattle.rules.specs.Effects.{Seen, topOf}
 use Rattle.rules.specs.Records.{packedRun}
 use Rattle.rules.specs.declared.Run.{Run}
-use Rattle.rules.specs.declared.Top.{Top}
+use Rattle.rules.specs.declared.Stepped.{Stepped}
 use Rattle.calculus.proofs.Levels.{clause-held}
 use Rattle.calculus.specs.Class.{Limited, withinLimits}
 use Rattle.calculus.specs.Rules.{clauseExists}
@@ -24,8 +24,8 @@ use Rattle.clauses.specs.Records.{clauseOf, instancedOf, packed, packedInstance
 use Rattle.clauses.specs.declared.Clause.{Clause}
 use Rattle.clauses.specs.declared.Instanced.{Instanced}
 use Rattle.rules.proofs.Reached.{FineConflict, FineState, decisions-few, fine-short, reached-fine}
-use Rattle.trail.proofs.Stored.{packed-length, packed-stored, stored-held, stored-length}
-use Rattle.trail.specs.Entries.{Held, Stored, entryOf, pastEnd, trailOf}
+use Rattle.trail.proofs.Stored.{packed-length, packed-stored, stored-own, stored-length}
+use Rattle.trail.specs.Entries.{OwnTrail, Stored, entryOf, pastEnd, trailOf}
 use Rattle.trail.specs.declared.Entry as entries
 use Rattle.calculus.specs.Clauses as calculus
 
@@ -88,6 +88,18 @@ module _ {r : Run} {s : State} (R : RunOf r s) where
   pub clause-says : (c : ℕ) (k : Clause) → T (clauseExists (clauses s) c) → k ≡ packed (clauseAt (clauses s) c) → clauseOf k ≡ clauseAt (clauses s) c
   clause-says c k h e = ap clauseOf e ∙ packed-says (clauseAt (clauses s) c) (fine .limited (clauseAt (clauses s) c) (clause-held (clauses s) c h))
 
+-- The run with other constants, level, trail and conflict
+abbrev pub remade : Run → (constants level length : ℕ) → List entries.Entry → Instanced → Run
+remade r m k n t f = record { constants = m; input = r .input; learned = r .learned; level = k; length = n; stands = r .stands; trail = t; conflict = f }
+
+-- .. with another trail array
+abbrev pub restored : Run → List entries.Entry → Run
+restored r es = remade r (r .constants) (r .level) (r .length) es (r .conflict)
+
+-- Accepted, with the next run q, and nothing learned
+abbrev pub accepting : Run → Stepped
+accepting q = record { run = q; number = accepted; place = 0; learned = 0 }
+
 -- A run record that is that of a state, part by part
 pub packed-as : {q : Run} (s : State) → q .constants ≡ s .constants → q .input ≡ length (s .input) → q .learned ≡ length (s .learned) → q .level ≡ s .level → q .stands ≡ stands (s .conflict)
     → Stored (q .trail) (q .length) (s .trail) → q .conflict ≡ packedInstanced (conflictOf (s .conflict)) → q ≡ packedRun s
@@ -103,7 +115,7 @@ pub record Small (r : Run) : Type 0 where
   pub few-learned : r .learned ≤ mostLearned
   pub few-entries : r .length ≤ mostEntries
   pub few-decisions : r .level ≤ r .length
-  pub trail-held : Held (r .trail) (r .length)
+  pub trail-held : OwnTrail (r .trail) (r .length)
   pub slots : length (r .trail) ≡ mostEntries
 
 pub kept-small : {r : Run} → Kept r → Small r
@@ -113,7 +125,7 @@ kept-small {r} (s, R) = record {
   few-learned = omega (arith, learned-is R, fine R .few-learned);
   few-entries = stored R .few;
   few-decisions = omega (arith, level-is R, fine R .level, decisions-few (s .trail), stored-length (stored R));
-  trail-held = stored-held (stored R);
+  trail-held = stored-own (stored R);
   slots = ap length (stored R .packed) ∙ packed-length (s .trail);
 }
 
@@ -127,34 +139,22 @@ split-last es (suc n) h = let e : n ≡ suc n - 1 = omega arith in ap (λ (k : �
 module _ {r : Run} {s : State} (R : RunOf r s) where
   -- A state with another conflict
   pub with-conflict : (n : Instanced) (N : calculus.Instanced) → r .stands ≡ true → n ≡ packedInstanced N
-      → _≡_ {A = Run} (record { constants = r .constants; input = r .input; learned = r .learned; level = r .level; length = r .length; stands = r .stands; trail = r .trail; conflict = n })
-      (packedRun (updated s (s .trail) (s .level) (some N)))
+      → remade r (r .constants) (r .level) (r .length) (r .trail) n ≡ packedRun (updated s (s .trail) (s .level) (some N))
   with-conflict n N e h = packed-as (updated s (s .trail) (s .level) (some N)) (constants-is R) (input-is R) (learned-is R) (level-is R) e (stored R) h
 
--- ---- what the top of a run shows
+-- ---- what a run shows
 
-module _ {r : Run} {s : State} (R : RunOf r s) {t : Top} {b : Bool} (q : t ≡ topOf r b) where
-  pub constants-shown : t .constants ≡ s .constants
-  constants-shown = ap (λ (t : Top). t .constants) q ∙ constants-is R
+module _ {r : Run} {s : State} (R : RunOf r s) where
+  pub stands-shown : {a : Bool} → r .stands ≡ a → stands (s .conflict) ≡ a
+  stands-shown e = sym (stands-is R) ∙ e
 
-  pub stands-shown : {a : Bool} → t .stands ≡ a → stands (s .conflict) ≡ a
-  stands-shown e = sym (stands-is R) ∙ (rw q at e)
+  -- The last entry, which stands in slot i
+  pub last-shown : (i : ℕ) → i ≡ r .length - 1 → 1 ≤ r .length → s .trail ≡ entryOf (getD (r .trail) i pastEnd) ∷ trailOf (r .trail) i
+  last-shown i e h = sym (stored R .says) ∙ split-last (r .trail) (r .length) h ∙ ap (λ (k : ℕ). entryOf (getD (r .trail) k pastEnd) ∷ trailOf (r .trail) k) (sym e)
 
-  pub conflict-shown : t .stands ≡ true → instancedOf (t .conflict) ≡ conflictOf (s .conflict)
-  conflict-shown e = ap (λ (t : Top). instancedOf (t .conflict)) q ∙ conflict-says R (rw q at e)
-
-  pub last-shown : 1 ≤ t .length → s .trail ≡ entryOf (t .last) ∷ trailOf (r .trail) (r .length - 1)
-  last-shown h = sym (stored R .says) ∙ split-last (r .trail) (r .length) (rw q at h) ∙ ap (λ (t : Top). entryOf (t .last) ∷ trailOf (r .trail) (r .length - 1)) (sym q)
-
-  pub none-shown : t .length < 1 → s .trail ≡ []
-  none-shown h = is-empty (s .trail) (omega (arith, stored-length (stored R), rw q at h))
+  pub none-shown : r .length < 1 → s .trail ≡ []
+  none-shown h = is-empty (s .trail) (omega (arith, stored-length (stored R)))
     where
       is-empty : (t : Trail) → length t ≤ 0 → t ≡ []
       is-empty [] k = refl
       is-empty (e ∷ t) k = absurd (omega arith)
-
-pub few-constants-shown : {t : Top} → Seen t → t .constants ≤ mostConstants
-few-constants-shown (r, b, (s, R), q) = omega (arith, constants-shown R q, fine R .few-constants)
-
-pub few-clauses-shown : {t : Top} → Seen t → (t .input ≤ mostInput) × (t .learned ≤ mostLearned)
-few-clauses-shown (r, b, K, q) = (omega (arith, kept-small K .few-input, ap (λ (t : Top). t .input) q), omega (arith, kept-small K .few-learned, ap (λ (t : Top). t .learned) q))

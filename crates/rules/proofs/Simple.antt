@@ -1,21 +1,18 @@
--- The rules that ask no test: Grow, Skip, Factorize. Each effect in terms of what the code has seen of the top of a run.
+-- The rules that test no atoms and look at no clause: Grow, Skip, Factorize. Each answer in terms of what the code has seen of the run.
 use mathlib.Core.Path.{_∙_, _≡_, ap, refl, subst, sym}
-use mathlib.Core.List.{[], _∷_}
+use mathlib.Core.List.{List, [], _∷_}
 use mathlib.Core.Option.{Option}
 use mathlib.Core.Bool.{Bool, _&&_, cond, false, not, true}
 use Prim.Native.Nat.{_+_, _-_, _<_, _≤_, ℕ}
 use native.Mathlib.Omega.{arith}
-use lib.Dec.{eqb, le→leb}
-use lib.ListN.{length, set}
-use borrow.Author.Tests.{le-leb, lt-leb}
+use lib.Dec.{eqb, leb, le→leb, ltb}
+use lib.ListN.{getD, length, set}
+use borrow.Author.Tests.{le-leb, leb-false, leb-true, lt-leb, ltb-false, ltb-true, not-false, not-true}
 use Rattle.basis.specs.Limits.{mostConstants}
 use Rattle.basis.specs.Refusals.{noEntry, noRoom, noSuch, wrongLiteral, wrongMoment}
-use Rattle.rules.specs.Answers.{Kept, RunOf}
-use Rattle.rules.specs.Effects.{Done, changing, topOf}
-use Rattle.rules.specs.declared.Change.the-variants.{Grown, Refused, Replaced, Skipped}
+use Rattle.rules.specs.Answers.{RunOf, Told}
+use Rattle.rules.specs.Records.{refusedBy}
 use Rattle.rules.specs.declared.Run.{Run}
-use Rattle.rules.specs.declared.Top.{Top}
-use Rattle.clauses.specs.declared.Clause.{Clause}
 use Rattle.calculus.proofs.Class.{factored-limited}
 use Rattle.calculus.specs.Class.{Limited}
 use Rattle.calculus.specs.Clauses.{sameLiteral}
@@ -26,38 +23,50 @@ use Rattle.calculus.specs.Trails.{Entry, Trail, background, foreground, isDecis
 use Rattle.clauses.proofs.Records.{packed-instanced-says}
 use Rattle.clauses.specs.Records.{instancedOf, packedInstanced}
 use Rattle.clauses.specs.declared.Instanced.{Instanced}
-use Rattle.merging.specs.Results.{factorized, fitted}
-use Rattle.merging.specs.declared.Merged.{Merged}
-use Rattle.rules.proofs.Runs.{conflict-is, conflict-shown, constants-is, constants-shown, fine, fine-conflict, input-is, kept-small, last-shown, learned-is, level-is, no-conflict, none-shown, packed-as, stands-is, stands-shown, stored, with-conflict, within}
-use Rattle.rules.proofs.Told.{accepted-as, nothing-asked, refusing, unchanged}
-use Rattle.trail.proofs.Stored.{dropped, stored-none}
-use Rattle.trail.specs.Entries.{Stored, entryOf, trailOf}
-use Rattle.trail.specs.Entries as entries
+use Rattle.joining.specs.Fitted.{fitted}
+use Rattle.joining.specs.declared.Merged.{Merged}
+use Rattle.merging.specs.Results.{factorized}
+use Rattle.rules.proofs.Runs.{accepting, conflict-is, conflict-says, constants-is, fine, fine-conflict, input-is, last-shown, learned-is, level-is, no-conflict, none-shown, packed-as, remade, stands-is, stands-shown, stored, with-conflict, within}
+use Rattle.rules.proofs.Asking.{as-told, asked, passed}
+use Rattle.rules.proofs.Told.{accepted-as, nothing-asked, refused}
+use Rattle.trail.proofs.Stored.{dropped, stored-none, stored-own}
+use Rattle.trail.specs.Entries.{Stored, blankEntry, entryOf, packedTrail, pastEnd, trailOf}
+use Rattle.trail.specs.declared.Entry as entries
 use Rattle.calculus.specs.Clauses as calculus
 
 -- ---- Grow
 
-module _ (r : Run) (k : Clause) {t : Top} {b : Bool} (q : t ≡ topOf r b) (n : ℕ) where
-  pub grow-standing : t .stands ≡ true → Done r k 8 (Grow n) (changing t (Refused wrongMoment))
-  grow-standing e = refusing r k q 8 (Grow n) wrongMoment tt tt (λ s R _ a. rw (stands-shown R q e))
+module _ {r : Run} {s : State} (R : RunOf r s) (n : ℕ) where
+  grow-standing : r .stands ≡ true → Told s (Grow n) (refusedBy r wrongMoment)
+  grow-standing e = refused R (Grow n) wrongMoment tt tt (λ a. rw (stands-shown R e))
 
-  module _ (e : t .stands ≡ false) where
-    pub grow-by-none : n < 1 → Done r k 8 (Grow n) (changing t (Refused noSuch))
-    grow-by-none h = refusing r k q 8 (Grow n) noSuch tt tt (λ s R _ a. simp (stands-shown R q e, lt-leb 1 n h))
+  module _ (e : r .stands ≡ false) where
+    grow-by-none : n < 1 → Told s (Grow n) (refusedBy r noSuch)
+    grow-by-none h = refused R (Grow n) noSuch tt tt (λ a. simp (stands-shown R e, lt-leb 1 n h))
 
-    pub grow-no-room : 1 ≤ n → 16 - t .constants < n → Done r k 8 (Grow n) (changing t (Refused noRoom))
-    grow-no-room h f = refusing r k q 8 (Grow n) noRoom tt tt (λ s R _ a. simp (stands-shown R q e, le-leb 1 n h, lt-leb (s .constants + n) mostConstants (omega (arith, constants-shown R q))))
+    grow-no-room : 1 ≤ n → mostConstants < r .constants + n → Told s (Grow n) (refusedBy r noRoom)
+    grow-no-room h f = refused R (Grow n) noRoom tt tt (λ a. simp (stands-shown R e, le-leb 1 n h, lt-leb (s .constants + n) mostConstants (omega (arith, constants-is R))))
 
-    pub grow-accepted : 1 ≤ n → n ≤ 16 - t .constants → Done r k 8 (Grow n) (changing t (Grown (t .constants + n)))
-    grow-accepted h f = record {
-      by = tt;
-      fits = tt;
-      idle = unchanged r q;
-      answers = λ _ s R _. let none-stands = stands-shown R q e in accepted-as R (Grow n) true (nothing-asked s (Grow n) refl)
-          (rw none-stands tt, (le→leb 1 n h, (le→leb (s .constants + n) mostConstants (omega (arith, constants-shown R q, fine R .few-constants)), tt)))
-          _ (packed-as (next s (Grow n)) (ap (λ (m : ℕ). m + n) (constants-shown R q)) (input-is R) (learned-is R) refl (rw q at e) stored-none
-          (conflict-is R ∙ ap (λ (c : Option calculus.Instanced). packedInstanced (conflictOf c)) (no-conflict (s .conflict) none-stands)));
-    }
+    pub grow-accepted : 1 ≤ n → r .constants + n ≤ mostConstants → (es : List entries.Entry) → es ≡ packedTrail [] → Told s (Grow n) (accepting (remade r (r .constants + n) 0 0 es (r .conflict)))
+    grow-accepted h f es b = let free = stands-shown R e in accepted-as R (Grow n) true (nothing-asked s (Grow n) refl)
+        (rw free tt, (le→leb 1 n h, (le→leb (s .constants + n) mostConstants (omega (arith, constants-is R, fine R .few-constants)), tt)))
+        _ (packed-as (next s (Grow n)) (ap (λ (m : ℕ). m + n) (constants-is R)) (input-is R) (learned-is R) refl e (rw b stored-none)
+        (conflict-is R ∙ ap (λ (c : Option calculus.Instanced). packedInstanced (conflictOf c)) (no-conflict (s .conflict) free)))
+
+  module _ {k k₁ k₂ : ℕ} (e₂ : k₂ ≡ cond (leb (r .constants + n) mostConstants) 0 noRoom) (e₁ : k₁ ≡ cond (ltb 0 n) k₂ noSuch) (e₀ : k ≡ cond (not (r .stands)) k₁ wrongMoment) where
+    pub grow-refused : ¬ (k ≡ 0) → Told s (Grow n) (refusedBy r k)
+    grow-refused h =
+        asked (not (r .stands)) _ _ e₀ (λ f q. as-told q (grow-standing (not-false (r .stands) f))) (λ t₀ q₀.
+        asked (ltb 0 n) _ _ e₁ (λ f q. as-told (q₀ ∙ q) (grow-by-none (not-true (r .stands) t₀) (omega (arith, ltb-false 0 n f)))) (λ t₁ q₁.
+        asked (leb (r .constants + n) mostConstants) _ _ e₂ (λ f q. as-told (q₀ ∙ q₁ ∙ q) (grow-no-room (not-true (r .stands) t₀) (ltb-true 0 n t₁) (leb-false (r .constants + n) mostConstants f)))
+        (λ t₂ q₂. absurd (h (q₀ ∙ q₁ ∙ q₂)))))
+
+    pub grow-passed : k ≡ 0 → (r .stands ≡ false) × (1 ≤ n) × (r .constants + n ≤ mostConstants)
+    grow-passed z =
+        let (t₀, z₁) = passed (not (r .stands)) _ _ e₀ tt z in
+        let (t₁, z₂) = passed (ltb 0 n) _ _ e₁ tt z₁ in
+        let (t₂, z₃) = passed (leb (r .constants + n) mostConstants) _ _ e₂ tt z₂ in
+        (not-true (r .stands) t₀, ltb-true 0 n t₁, leb-true (r .constants + n) mostConstants t₂)
 
 -- ---- Skip
 
@@ -66,38 +75,56 @@ last-asked : (N : calculus.Instanced) (e : Entry) (t : Trail) → complementInCo
 last-asked N (foreground l o) t = refl
 last-asked N (background a) t = refl
 
-module _ (r : Run) (k : Clause) {t : Top} {b : Bool} (q : t ≡ topOf r b) where
-  pub skip-no-conflict : t .stands ≡ false → Done r k 6 Skip (changing t (Refused wrongMoment))
-  skip-no-conflict e = refusing r k q 6 Skip wrongMoment tt tt (λ s R _ a. rw (stands-shown R q e))
+module _ {r : Run} {s : State} (R : RunOf r s) where
+  skip-no-conflict : r .stands ≡ false → Told s Skip (refusedBy r wrongMoment)
+  skip-no-conflict e = refused R Skip wrongMoment tt tt (λ a. rw (stands-shown R e))
 
-  module _ (e : t .stands ≡ true) where
-    pub skip-no-entry : t .length < 1 → Done r k 6 Skip (changing t (Refused noEntry))
-    skip-no-entry h = refusing r k q 6 Skip noEntry tt tt (λ s R _ a. simp (stands-shown R q e, none-shown R q h))
+  module _ (e : r .stands ≡ true) where
+    skip-no-entry : r .length < 1 → Told s Skip (refusedBy r noEntry)
+    skip-no-entry h = refused R Skip noEntry tt tt (λ a. simp (stands-shown R e, none-shown R h))
 
-    module _ (h : 1 ≤ t .length) where
-      asked : {s : State} (R : RunOf r s) {a : Bool} → complementInConflict (instancedOf (t .conflict)) (entryOf (t .last) ∷ []) ≡ a
-          → complementInConflict (conflictOf (s .conflict)) (entryOf (t .last) ∷ trailOf (r .trail) (r .length - 1)) ≡ a
-      asked {s} R z = last-asked (conflictOf (s .conflict)) (entryOf (t .last)) (trailOf (r .trail) (r .length - 1)) ∙ rw (conflict-shown R q e) at z
+    -- The last entry stands in slot i.
+    module _ (h : 1 ≤ r .length) (i : ℕ) (i-is : i ≡ r .length - 1) where
+      abbrev E : entries.Entry
+      E = getD (r .trail) i pastEnd
 
-      pub skip-complement : complementInConflict (instancedOf (t .conflict)) (entryOf (t .last) ∷ []) ≡ true → Done r k 6 Skip (changing t (Refused wrongLiteral))
-      skip-complement z = refusing r k q 6 Skip wrongLiteral tt tt (λ s R _ a. simp (stands-shown R q e, last-shown R q h, asked R z))
+      last : s .trail ≡ entryOf E ∷ trailOf (r .trail) i
+      last = last-shown R i i-is h
 
-      pub skip-accepted : Kept r → complementInConflict (instancedOf (t .conflict)) (entryOf (t .last) ∷ []) ≡ false → (m : ℕ) → m ≡ cond (isDecision (entryOf (t .last))) (t .level - 1) (t .level)
-          → Done r k 6 Skip (changing t (Skipped m))
-      skip-accepted K z m j = record {
-        by = tt;
-        fits = kept-small K .few-entries;
-        idle = unchanged r q;
-        answers = λ _ s R _. accepted-as R Skip true (nothing-asked s Skip refl)
-            (rw (stands-shown R q e) tt, (rw (last-shown R q h) tt, (rw (last-shown R q h) (rw (asked R z) tt), tt)))
-            _ (packed-as (next s Skip) (constants-is R) (input-is R) (learned-is R) (level R) (stands-is R) (rest R) (conflict-is R));
-      }
+      in-conflict : {a : Bool} → complementInConflict (instancedOf (r .conflict)) (entryOf E ∷ []) ≡ a → complementInConflict (conflictOf (s .conflict)) (entryOf E ∷ trailOf (r .trail) i) ≡ a
+      in-conflict z = last-asked (conflictOf (s .conflict)) (entryOf E) (trailOf (r .trail) i) ∙ rw (conflict-says R e) at z
+
+      skip-complement : complementInConflict (instancedOf (r .conflict)) (entryOf E ∷ []) ≡ true → Told s Skip (refusedBy r wrongLiteral)
+      skip-complement z = refused R Skip wrongLiteral tt tt (λ a. simp (stands-shown R e, last, in-conflict z))
+
+      pub skip-accepted : complementInConflict (instancedOf (r .conflict)) (entryOf E ∷ []) ≡ false → (m : ℕ) → m ≡ cond (isDecision (entryOf E)) (r .level - 1) (r .level) → (b : entries.Entry) → b ≡ blankEntry
+          → Told s Skip (accepting (remade r (r .constants) m i (set (r .trail) i b) (r .conflict)))
+      skip-accepted z m j b b-is = accepted-as R Skip true (nothing-asked s Skip refl)
+          (rw (stands-shown R e) tt, (rw last tt, (rw last (rw (in-conflict z) tt), tt)))
+          _ (packed-as (next s Skip) (constants-is R) (input-is R) (learned-is R) level (stands-is R) rest (conflict-is R))
         where
-          level : {s : State} (R : RunOf r s) → m ≡ levelAfterSkip (s .trail) (s .level)
-          level {s} R = j ∙ ap (λ (n : ℕ). cond (isDecision (entryOf (t .last))) (n - 1) n) (ap (λ (t : Top). t .level) q ∙ level-is R) ∙ sym (ap (λ (l : Trail). levelAfterSkip l (s .level)) (last-shown R q h))
+          level : m ≡ levelAfterSkip (s .trail) (s .level)
+          level = j ∙ ap (λ (n : ℕ). cond (isDecision (entryOf E)) (n - 1) n) (level-is R) ∙ sym (ap (λ (l : Trail). levelAfterSkip l (s .level)) last)
 
-          rest : {s : State} (R : RunOf r s) → Stored (set (r .trail) (r .length - 1) entries.noEntry) (r .length - 1) (withoutLast (s .trail))
-          rest R = rw (stored R .says) at (dropped (r .trail) (r .length) (r .length - 1) entries.noEntry (omega (arith, rw q at h)) refl (kept-small K .trail-held))
+          rest : Stored (set (r .trail) i b) i (withoutLast (s .trail))
+          rest = rw (stored R .says) at (dropped (r .trail) (r .length) i b (omega (arith, i-is)) b-is (stored-own (stored R)))
+
+  -- The last entry stands in slot i.
+  module _ (i : ℕ) (i-is : i ≡ r .length - 1) (z : Bool) (z-is : z ≡ complementInConflict (instancedOf (r .conflict)) (entryOf (getD (r .trail) i pastEnd) ∷ [])) {k k₁ k₂ : ℕ}
+      (e₂ : k₂ ≡ cond (not z) 0 wrongLiteral) (e₁ : k₁ ≡ cond (ltb 0 (r .length)) k₂ noEntry) (e₀ : k ≡ cond (r .stands) k₁ wrongMoment) where
+    pub skip-refused : ¬ (k ≡ 0) → Told s Skip (refusedBy r k)
+    skip-refused h =
+        asked (r .stands) _ _ e₀ (λ f q. as-told q (skip-no-conflict f)) (λ t₀ q₀.
+        asked (ltb 0 (r .length)) _ _ e₁ (λ f q. as-told (q₀ ∙ q) (skip-no-entry t₀ (omega (arith, ltb-false 0 (r .length) f)))) (λ t₁ q₁.
+        asked (not z) _ _ e₂ (λ f q. as-told (q₀ ∙ q₁ ∙ q) (skip-complement t₀ (ltb-true 0 (r .length) t₁) i i-is (sym z-is ∙ not-false z f)))
+        (λ t₂ q₂. absurd (h (q₀ ∙ q₁ ∙ q₂)))))
+
+    pub skip-passed : k ≡ 0 → (r .stands ≡ true) × (1 ≤ r .length) × (complementInConflict (instancedOf (r .conflict)) (entryOf (getD (r .trail) i pastEnd) ∷ []) ≡ false)
+    skip-passed o =
+        let (t₀, z₁) = passed (r .stands) _ _ e₀ tt o in
+        let (t₁, z₂) = passed (ltb 0 (r .length)) _ _ e₁ tt z₁ in
+        let (t₂, z₃) = passed (not z) _ _ e₂ tt z₂ in
+        (t₀, ltb-true 0 (r .length) t₁, sym z-is ∙ not-true z t₂)
 
 -- ---- Factorize
 
@@ -107,38 +134,48 @@ unfolding factorized fitted
 factorized-is N i j l e = simp (packed-instanced-says N l e, within (N .clause) l, within (factored N i j .clause) (factored-limited N i j l))
 
 -- The two literals are two of the instanced clause, and have the same instance.
-abbrev Two : (i j : ℕ) → calculus.Instanced → Bool
+abbrev pub Two : (i j : ℕ) → calculus.Instanced → Bool
 Two i j N = literalExists (N .clause) i && (literalExists (N .clause) j && not (eqb i j))
 
-abbrev Same : (i j : ℕ) → calculus.Instanced → Bool
+abbrev pub Same : (i j : ℕ) → calculus.Instanced → Bool
 Same i j N = sameLiteral (literalInstance N i) (literalInstance N j)
 
-module _ (r : Run) (k : Clause) {t : Top} {b : Bool} (q : t ≡ topOf r b) (i j : ℕ) where
-  pub factorize-no-conflict : t .stands ≡ false → Done r k 5 (Factorize i j) (changing t (Refused wrongMoment))
-  factorize-no-conflict e = refusing r k q 5 (Factorize i j) wrongMoment tt tt (λ s R _ a. rw (stands-shown R q e))
+module _ {r : Run} {s : State} (R : RunOf r s) (i j : ℕ) where
+  factorize-no-conflict : r .stands ≡ false → Told s (Factorize i j) (refusedBy r wrongMoment)
+  factorize-no-conflict e = refused R (Factorize i j) wrongMoment tt tt (λ a. rw (stands-shown R e))
 
-  module _ (e : t .stands ≡ true) where
-    shown : (P : calculus.Instanced → Bool) {s : State} (R : RunOf r s) {a : Bool} → P (instancedOf (t .conflict)) ≡ a → P (conflictOf (s .conflict)) ≡ a
-    shown P R {a} = subst (λ N. P N ≡ a) (conflict-shown R q e)
+  module _ (e : r .stands ≡ true) where
+    shown : (P : calculus.Instanced → Bool) {a : Bool} → P (instancedOf (r .conflict)) ≡ a → P (conflictOf (s .conflict)) ≡ a
+    shown P {a} = subst (λ N. P N ≡ a) (conflict-says R e)
 
-    pub factorize-no-such : Two i j (instancedOf (t .conflict)) ≡ false → Done r k 5 (Factorize i j) (changing t (Refused noSuch))
-    factorize-no-such h = refusing r k q 5 (Factorize i j) noSuch tt tt (λ s R _ a. simp (stands-shown R q e, shown (Two i j) R h))
+    factorize-no-such : Two i j (instancedOf (r .conflict)) ≡ false → Told s (Factorize i j) (refusedBy r noSuch)
+    factorize-no-such h = refused R (Factorize i j) noSuch tt tt (λ a. simp (stands-shown R e, shown (Two i j) h))
 
-    module _ (h : Two i j (instancedOf (t .conflict)) ≡ true) where
-      pub factorize-differ : Same i j (instancedOf (t .conflict)) ≡ false → Done r k 5 (Factorize i j) (changing t (Refused wrongLiteral))
-      factorize-differ f = refusing r k q 5 (Factorize i j) wrongLiteral tt tt (λ s R _ a. simp (stands-shown R q e, shown (Two i j) R h, shown (Same i j) R f))
+    module _ (h : Two i j (instancedOf (r .conflict)) ≡ true) where
+      factorize-differ : Same i j (instancedOf (r .conflict)) ≡ false → Told s (Factorize i j) (refusedBy r wrongLiteral)
+      factorize-differ f = refused R (Factorize i j) wrongLiteral tt tt (λ a. simp (stands-shown R e, shown (Two i j) h, shown (Same i j) f))
 
-      pub factorize-accepted : Same i j (instancedOf (t .conflict)) ≡ true → (m : Merged) → m ≡ factorized (t .conflict) (i - 1) (j - 1)
-          → Done r k 5 (Factorize i j) (record { change = Replaced; entry = t .last; conflict = m .of })
-      factorize-accepted f m z = record {
-        by = tt;
-        fits = tt;
-        idle = unchanged r q .0;
-        answers = λ _ s R _. accepted-as R (Factorize i j) true (nothing-asked s (Factorize i j) refl)
-            (rw (stands-shown R q e) tt, (rw (shown (Two i j) R h) tt, (rw (shown (Same i j) R f) tt, tt)))
-            _ (with-conflict R (m .of) (factored (conflictOf (s .conflict)) (i - 1) (j - 1)) (rw q at e) (ap (λ (w : Merged). w .of) (merged R)));
-      }
+      pub factorize-accepted : Same i j (instancedOf (r .conflict)) ≡ true → (m : Merged) → m ≡ factorized (r .conflict) (i - 1) (j - 1)
+          → Told s (Factorize i j) (accepting (remade r (r .constants) (r .level) (r .length) (r .trail) (m .of)))
+      factorize-accepted f m g = accepted-as R (Factorize i j) true (nothing-asked s (Factorize i j) refl)
+          (rw (stands-shown R e) tt, (rw (shown (Two i j) h) tt, (rw (shown (Same i j) f) tt, tt)))
+          _ (with-conflict R (m .of) (factored (conflictOf (s .conflict)) (i - 1) (j - 1)) e (ap (λ (w : Merged). w .of) is))
         where
-          merged : {s : State} (R : RunOf r s) → m ≡ record { fits = true; of = packedInstanced (factored (conflictOf (s .conflict)) (i - 1) (j - 1)) }
-          merged {s} R = let N = conflictOf (s .conflict) in let g = fine-conflict R (rw q at e) in
-              z ∙ ap (λ (n : Instanced). factorized n (i - 1) (j - 1)) (unchanged r q .1 ∙ conflict-is R) ∙ factorized-is N (i - 1) (j - 1) (g .limited) (g .sized .size)
+          is : m ≡ record { fits = true; of = packedInstanced (factored (conflictOf (s .conflict)) (i - 1) (j - 1)) }
+          is = g ∙ ap (λ (n : Instanced). factorized n (i - 1) (j - 1)) (conflict-is R) ∙ factorized-is (conflictOf (s .conflict)) (i - 1) (j - 1) (fine-conflict R e .limited) (fine-conflict R e .sized .size)
+
+  module _ (a b : Bool) (a-is : a ≡ Two i j (instancedOf (r .conflict))) (b-is : b ≡ Same i j (instancedOf (r .conflict))) {k k₁ k₂ : ℕ}
+      (e₂ : k₂ ≡ cond b 0 wrongLiteral) (e₁ : k₁ ≡ cond a k₂ noSuch) (e₀ : k ≡ cond (r .stands) k₁ wrongMoment) where
+    pub factorize-refused : ¬ (k ≡ 0) → Told s (Factorize i j) (refusedBy r k)
+    factorize-refused h =
+        asked (r .stands) _ _ e₀ (λ f q. as-told q (factorize-no-conflict f)) (λ t₀ q₀.
+        asked a _ _ e₁ (λ f q. as-told (q₀ ∙ q) (factorize-no-such t₀ (sym a-is ∙ f))) (λ t₁ q₁.
+        asked b _ _ e₂ (λ f q. as-told (q₀ ∙ q₁ ∙ q) (factorize-differ t₀ (sym a-is ∙ t₁) (sym b-is ∙ f)))
+        (λ t₂ q₂. absurd (h (q₀ ∙ q₁ ∙ q₂)))))
+
+    pub factorize-passed : k ≡ 0 → (r .stands ≡ true) × (Two i j (instancedOf (r .conflict)) ≡ true) × (Same i j (instancedOf (r .conflict)) ≡ true)
+    factorize-passed o =
+        let (t₀, z₁) = passed (r .stands) _ _ e₀ tt o in
+        let (t₁, z₂) = passed a _ _ e₁ tt z₁ in
+        let (t₂, z₃) = passed b _ _ e₂ tt z₂ in
+        (t₀, sym a-is ∙ t₁, sym b-is ∙ t₂)

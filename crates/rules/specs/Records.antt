@@ -1,19 +1,16 @@
 -- Run records, answers and step records as the calculus's states, answers and steps.
 use mathlib.Core.List.{List}
 use mathlib.Core.Bool.{Bool, true, false, cond}
-use Prim.Native.Nat.{ℕ, _+_}
+use Prim.Native.Nat.{ℕ}
 use lib.Dec.{eqb}
 use lib.ListN.{length}
 use Rattle.lists.specs.Arrays.{exactly}
-use Rattle.calculus.specs.Clauses.{noInstanced}
 use Rattle.calculus.specs.States as calculus
 use Rattle.calculus.specs.States.{State, conflictOf}
-use Rattle.calculus.specs.Rules.{Answer}
+use Rattle.basis.specs.Refusals.{accepted, notFalse}
+use Rattle.calculus.specs.Rules.{Answer, learnsAt}
 use Rattle.clauses.specs.Records.{packedInstanced}
-use Rattle.clauses.specs.declared.Instanced.{Instanced}
 use Rattle.trail.specs.Entries.{packedTrail}
-use Rattle.trail.specs.declared.Entry.{Entry}
-use Rattle.trail.specs.declared.Grown.{Grown}
 use Rattle.trail.specs.declared.Kind.{Kind}
 use Rattle.trail.specs.declared.Kind.the-variants.{Background, Propagated, Decided}
 use Rattle.rules.specs.declared.Run.{Run}
@@ -33,38 +30,16 @@ packedRun s = record {
   conflict = packedInstanced (conflictOf (s .conflict));
 }
 
-abbrev pub packedAnswer : Answer → Stepped
-packedAnswer a = record { run = packedRun (a .state); number = a .number; place = a .place }
+-- The record of an answer to the step x at the state s; an accepted Backtrack learned the conflict that stood.
+abbrev pub packedAnswer : State → calculus.Step → Answer → Stepped
+packedAnswer s x a = record { run = packedRun (a .state); number = a .number; place = a .place; learned = cond (eqb (a .number) accepted) (learnsAt s x) 0 }
 
--- The run with other constants, level, trail and conflict
-abbrev pub remade : Run → (constants level length : ℕ) → List Entry → Instanced → Run
-remade r m k n t f = record {
-  constants = m;
-  input = r .input;
-  learned = r .learned;
-  level = k;
-  length = n;
-  stands = r .stands;
-  trail = t;
-  conflict = f;
-}
+-- "A refused step hands back the state it was given"; 12 names a literal.
+abbrev pub refusedBy : Run → ℕ → Stepped
+refusedBy r n = record { run = r; number = n; place = 0; learned = 0 }
 
--- .. with its trail grown, at level k
-abbrev pub withTrail : Run → Grown → ℕ → Run
-withTrail r w k = remade r (r .constants) k (w .length) (w .trail) (r .conflict)
-
--- .. and with one clause more learned, no conflict standing
-abbrev pub learnt : Run → Grown → ℕ → Run
-learnt r w i = record {
-  constants = r .constants;
-  input = r .input;
-  learned = r .learned + 1;
-  level = i;
-  length = w .length;
-  stands = false;
-  trail = w .trail;
-  conflict = packedInstanced noInstanced;
-}
+abbrev pub refusedAt : Run → ℕ → Stepped
+refusedAt r p = record { run = r; number = notFalse; place = p; learned = 0 }
 
 -- An entry of this kind is a propagated literal.
 abbrev pub isPropagated : Kind → Bool

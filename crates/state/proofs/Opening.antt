@@ -19,7 +19,9 @@ use Rattle.calculus.specs.Clauses as calculus
 use Rattle.calculus.proofs.Admitting.{admitted-exactly}
 use Rattle.clauses.specs.Records.{packed}
 use Rattle.clauses.specs.declared.Clause.{Clause}
-use Rattle.rules.proofs.Told.{admitted-reached}
+use Rattle.calculus.proofs.Runs.{admitted-reached}
+use Rattle.calculus.specs.Runs.{plain}
+use Rattle.basis.specs.Numbers.{whole}
 use Rattle.state.specs.States.{AdmitKeeps, AdmitMakesStates, IsNew, madeOf, newRun, opened, packedState, packedTable}
 use Rattle.state.specs.declared.Opened.{Opened}
 use Rattle.state.specs.declared.State.{State}
@@ -59,9 +61,9 @@ module _ (constants : ℕ) (arities : List ℕ) (cs : List calculus.Clause) {t :
   admitted h = admitted-exactly constants arities cs .0 (sym number-is ∙ h)
 
   -- The table that is handed back, by whether there is a refusal
-  clauses-are : t .clauses ≡ cond (eqb (t .number) accepted) (admission.packedTable cs) (admission.packedTable [])
+  clauses-are : t .clauses ≡ cond (eqb (t .number) accepted) (admission.packedInput cs) (admission.packedInput [])
   unfolding admission.answered
-  clauses-are = ap (λ (q : TableAnswer). q .clauses) e ∙ ap (λ (n : ℕ). cond (eqb n accepted) (admission.packedTable cs) (admission.packedTable [])) (sym number-is)
+  clauses-are = ap (λ (q : TableAnswer). q .clauses) e ∙ ap (λ (n : ℕ). cond (eqb n accepted) (admission.packedInput cs) (admission.packedInput [])) (sym number-is)
 
   -- A record whose state is that of the refusal's number
   opens : (r : State) → r ≡ packedState (madeOf (t .number) constants arities cs) → _≡_ {A = Opened} (record { state = r; number = t .number; place = t .place }) (opened constants arities cs)
@@ -72,15 +74,15 @@ module _ (constants : ℕ) (arities : List ℕ) (cs : List calculus.Clause) {t :
       → _≡_ {A = Opened} (record { state = r; number = t .number; place = t .place }) (opened constants arities cs)
   opens-accepted h count n r new = opens r (new cs read n (omega (arith, admitted h .few-clauses)) ∙ ap packedState (sym (made-accepted (t .number) constants arities cs h)))
     where
-      read : t .clauses ≡ admission.packedTable cs
-      read = clauses-are ∙ ap (λ (b : Bool). cond b (admission.packedTable cs) (admission.packedTable [])) (eq-eqb (t .number) accepted h)
+      read : t .clauses ≡ admission.packedInput cs
+      read = clauses-are ∙ ap (λ (b : Bool). cond b (admission.packedInput cs) (admission.packedInput [])) (eq-eqb (t .number) accepted h)
 
   pub opens-refused : ¬ (t .number ≡ accepted) → (r : State) → IsNew 0 [] 0 (t .clauses) r
       → _≡_ {A = Opened} (record { state = r; number = t .number; place = t .place }) (opened constants arities cs)
   opens-refused h r new = opens r (new [] blank refl (omega arith) ∙ ap packedState (sym (made-refused (t .number) constants arities cs h)))
     where
-      blank : t .clauses ≡ admission.packedTable []
-      blank = clauses-are ∙ ap (λ (b : Bool). cond b (admission.packedTable cs) (admission.packedTable [])) (ne-eqb (t .number) accepted h)
+      blank : t .clauses ≡ admission.packedInput []
+      blank = clauses-are ∙ ap (λ (b : Bool). cond b (admission.packedInput cs) (admission.packedInput [])) (ne-eqb (t .number) accepted h)
 
 -- ---- what `step` takes for granted
 
@@ -108,10 +110,10 @@ module _ (constants : ℕ) (arities : List ℕ) (cs : List calculus.Clause) (a :
 pub admit-makes-states : AdmitMakesStates
 admit-makes-states constants arities cs a e h =
     let k = admitted-exactly constants arities cs .0 (sym (refusal-is constants arities cs a e) ∙ h) in
-    (k, record { reached = admitted-reached (fresh constants arities cs) k; is = state-is constants arities cs a e ∙ ap packedState (made-accepted (a .number) constants arities cs h) })
+    (k, record { reached = admitted-reached (plain whole) (fresh constants arities cs) k; is = state-is constants arities cs a e ∙ ap packedState (made-accepted (a .number) constants arities cs h) })
 
 pub admit-keeps : AdmitKeeps
 admit-keeps constants arities cs a e = elim (ℕ-discrete (a .number) accepted) [
   | yes h ↦ (fresh constants arities cs, admit-makes-states constants arities cs a e h .1)
-  | no h ↦ (fresh 0 [] [], record { reached = admitted-reached (fresh 0 [] []) none-admitted; is = state-is constants arities cs a e ∙ ap packedState (made-refused (a .number) constants arities cs h) })
+  | no h ↦ (fresh 0 [] [], record { reached = admitted-reached (plain whole) (fresh 0 [] []) none-admitted; is = state-is constants arities cs a e ∙ ap packedState (made-refused (a .number) constants arities cs h) })
 ]

@@ -17,7 +17,7 @@ use Rattle.calculus.proofs.Demands.{demand-2, demand-3}
 use Rattle.rules.proofs.Runs.{no-conflict}
 use Rattle.rules.specs.Records.{stepOf}
 use Rattle.rules.specs.declared.Step.{Step}
-use Rattle.rules.proofs.Told.{admitted-reached, steps-keep-reached}
+use Rattle.calculus.proofs.Runs.{admitted-reached, steps-keep-reached}
 use Rattle.state.specs.States.{AdmittedCodeReplays, AdmittedCodeSound, AnswerUnique, CodeReplays, CodeRun, CodeRunsAreRuns, CodeSound, StateOf, StepKeeps, over, packedAnswer, packedState, then}
 use Rattle.state.proofs.Opening.{admit-makes-states}
 use Rattle.state.specs.declared.Answered.{Answered}
@@ -25,13 +25,13 @@ use Rattle.state.specs.declared.State.{State}
 
 -- The state that a step hands back
 handed-back : {r : State} {s : states.State} (x : Step) (a : Answered) (b : Answer) → StateOf r s → Judged whole s (stepOf x) b → a ≡ packedAnswer b → StateOf (a .state) (b .state)
-handed-back {s = s} x a b S j e = record { reached = steps-keep-reached s (stepOf x) b (S .reached) j; is = ap (λ (q : Answered). q .state) e }
+handed-back {s = s} x a b S j e = record { reached = steps-keep-reached (runs.plain whole) s (stepOf x) b (S .reached) j; is = ap (λ (q : Answered). q .state) e }
 
 pub step-keeps : StepKeeps
 step-keeps r x a (s, S) h = let (b, j, e) = h s S in (b .state, handed-back x a b S j e)
 
 -- From any state reached
-code-run : {r r′ : State} {xs : List Step} (s : states.State) → StateOf r s → CodeRun r xs r′ → (s′ : states.State) × runs.Run whole s (map stepOf xs) s′ × (r′ ≡ packedState s′)
+code-run : {r r′ : State} {xs : List Step} (s : states.State) → StateOf r s → CodeRun r xs r′ → (s′ : states.State) × runs.Run (runs.plain whole) s (map stepOf xs) s′ × (r′ ≡ packedState s′)
 code-run s S (over e) = (s, runs.over refl, sym e ∙ S .is)
 code-run s S (then x a h rest) =
     let (b, j, e) = h s S in
@@ -39,7 +39,7 @@ code-run s S (then x a h rest) =
     (s′, runs.then b j run, is)
 
 pub code-runs-are-runs : CodeRunsAreRuns
-code-runs-are-runs s₀ r xs a h = code-run s₀ (record { reached = admitted-reached s₀ a; is = refl }) h
+code-runs-are-runs s₀ r xs a h = code-run s₀ (record { reached = admitted-reached (runs.plain whole) s₀ a; is = refl }) h
 
 -- The calculus answers once.
 pub answer-unique : AnswerUnique

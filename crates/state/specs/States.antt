@@ -3,29 +3,28 @@ use mathlib.Core.Path.{_≡_}
 use mathlib.Core.List.{List, [], _∷_, map, List·Memᴰ}
 use mathlib.Core.Bool.{cond, true, false}
 use Prim.Native.Nat.{ℕ, _-_, _≤_}
-use lib.Dec.{eqb}
-use lib.ListN.{length}
+use lib.Dec.{eqb, ltb}
+use lib.ListN.{length, set}
 use Rattle.admission.specs.Offered as admission
 use Rattle.basis.specs.Limits.{mostClauses, mostInput, mostPredicates}
 use Rattle.basis.specs.Numbers.{whole}
 use Rattle.basis.specs.Refusals.{accepted}
 use Rattle.lists.specs.Arrays.{exactly}
 use Rattle.calculus.specs.Admission.{Admitted, admissionRefusal, fresh}
-use Rattle.calculus.specs.Checks.{between}
 use Rattle.calculus.specs.Clauses as calculus
 use Rattle.calculus.specs.Rules.{Answer, Judged}
 use Rattle.calculus.specs.Runs as runs
+use Rattle.calculus.specs.Runs.{Reached, plain}
 use Rattle.calculus.specs.States as states
 use Rattle.calculus.specs.States.{clauses}
 use Rattle.calculus.specs.Truth.{Reading, True}
 use Rattle.clauses.specs.Records.{packed, packedInstanced}
 use Rattle.clauses.specs.declared.Clause.{Clause}
-use Rattle.rules.specs.Answers.{Reached}
 use Rattle.rules.specs.Records.{packedRun, stepOf}
 use Rattle.rules.specs.declared.Run.{Run}
 use Rattle.rules.specs.declared.Step.{Step}
+use Rattle.rules.specs.declared.Stepped.{Stepped}
 use Rattle.trail.specs.Entries.{packedTrail}
-use Rattle.trail.specs.declared.Entry.{Entry}
 use Rattle.state.specs.declared.State.{State}
 use Rattle.state.specs.declared.Answered.{Answered}
 use Rattle.state.specs.declared.Opened.{Opened}
@@ -48,11 +47,11 @@ packedAnswer a = record { state = packedState (a .state); number = a .number; pl
 
 -- Taken for granted of a state record: it is that of a state reached.
 pub record StateOf (r : State) (s : states.State) : Type 0 where
-  pub reached : Reached s
+  pub reached : Reached (plain whole) s
   pub is : r ≡ packedState s
 
-abbrev pub Kept : State → Type 0
-Kept r = (s : states.State) × StateOf r s
+abbrev pub Made : State → Type 0
+Made r = (s : states.State) × StateOf r s
 
 -- What `step` promises: the calculus's answer, of every such state.
 abbrev pub Answers : State → Step → Answered → Type 0
@@ -86,7 +85,7 @@ newRun constants input = record {
 
 -- r is the state in which nothing has been done, of the clauses that the table holds.
 abbrev pub IsNew : ℕ → List ℕ → ℕ → List Clause → State → Type 0
-IsNew constants arities count table r = (cs : List calculus.Clause) → table ≡ admission.packedTable cs → count ≡ length cs → count ≤ mostInput → r ≡ packedState (fresh constants arities cs)
+IsNew constants arities count table r = (cs : List calculus.Clause) → table ≡ admission.packedInput cs → count ≡ length cs → count ≤ mostInput → r ≡ packedState (fresh constants arities cs)
 
 -- What is accepted is admitted, and the state handed back is its record: what `step` takes for granted. Proved in proofs/Opening.antt.
 abbrev pub AdmitMakesStates : Type 0
@@ -95,25 +94,21 @@ AdmitMakesStates = (constants : ℕ) (arities : List ℕ) (cs : List calculus.Cl
 
 -- .. and so may be taken what stands beside a refusal: the state of no clauses is admitted too.
 abbrev pub AdmitKeeps : Type 0
-AdmitKeeps = (constants : ℕ) (arities : List ℕ) (cs : List calculus.Clause) (a : Opened) → a ≡ opened constants arities cs → Kept (a .state)
+AdmitKeeps = (constants : ℕ) (arities : List ℕ) (cs : List calculus.Clause) (a : Opened) → a ≡ opened constants arities cs → Made (a .state)
 
 -- ---- steps
 
--- The number of the clause that a step looks at: the named one; Resolve looks at the last entry's, which is none's where the trail is empty.
-abbrev pub lookedAt : Entry → Step → ℕ
-lookedAt e x = cond (eqb (x .rule) 4) (e .clause) (x .clause)
-
--- Its slot in the table; of a number that no table has, any
-abbrev pub slotOf : ℕ → ℕ
-slotOf c = cond (between 1 mostClauses c) (c - 1) 0
+-- The table after a step of the run r: the conflict that stood is written under the number at which it was learned.
+abbrev pub tableAfter : List Clause → Run → Stepped → List Clause
+tableAfter table r a = cond (ltb 0 (a .learned)) (set table (a .learned - 1) (r .conflict .clause)) table
 
 -- Every step keeps what it takes for granted. Proved in proofs/Runs.antt.
 abbrev pub StepKeeps : Type 0
-StepKeeps = (r : State) (x : Step) (a : Answered) → Kept r → Answers r x a → Kept (a .state)
+StepKeeps = (r : State) (x : Step) (a : Answered) → Made r → Answers r x a → Made (a .state)
 
 -- The answer is unique. Proved in proofs/Runs.antt.
 abbrev pub AnswerUnique : Type 0
-AnswerUnique = (r : State) (x : Step) (a b : Answered) → Kept r → Answers r x a → Answers r x b → a ≡ b
+AnswerUnique = (r : State) (x : Step) (a b : Answered) → Made r → Answers r x a → Answers r x b → a ≡ b
 
 -- ---- runs
 
@@ -125,7 +120,7 @@ pub data CodeRun : State → List Step → State → Type 0 where
 -- Any run of the code from a state that admission made is a run of the calculus. Proved in proofs/Runs.antt.
 abbrev pub CodeRunsAreRuns : Type 0
 CodeRunsAreRuns = (s₀ : states.State) (r : State) (xs : List Step) → Admitted s₀ → CodeRun (packedState s₀) xs r
-    → (s : states.State) × runs.Run whole s₀ (map stepOf xs) s × (r ≡ packedState s)
+    → (s : states.State) × runs.Run (plain whole) s₀ (map stepOf xs) s × (r ≡ packedState s)
 
 -- So soundness holds of the code: "a run that reaches a conflict without foreground literals shows that no reading of the predicates over the
 -- whole numbers makes every input clause true."
@@ -137,7 +132,7 @@ CodeSound = (s₀ : states.State) (r : State) (xs : List Step) → Admitted s₀
 -- are each accepted and give the same state.
 abbrev pub CodeReplays : Type 0
 CodeReplays = (s₀ : states.State) (r : State) (xs : List Step) → Admitted s₀ → CodeRun (packedState s₀) xs r → r .run .stands ≡ false
-    → (s : states.State) × (r ≡ packedState s) × runs.AcceptedRun whole (runs.restarted s) (runs.replayed (s .trail)) s
+    → (s : states.State) × (r ≡ packedState s) × runs.AcceptedRun (plain whole) (runs.restarted s) (runs.replayed (s .trail)) s
 
 -- ---- from the front door on: what was offered, accepted by `admit` and then changed by `step` alone
 
@@ -149,4 +144,4 @@ AdmittedCodeSound = (constants : ℕ) (arities : List ℕ) (cs : List calculus.C
 abbrev pub AdmittedCodeReplays : Type 0
 AdmittedCodeReplays = (constants : ℕ) (arities : List ℕ) (cs : List calculus.Clause) (a : Opened) (r : State) (xs : List Step)
     → a ≡ opened constants arities cs → a .number ≡ accepted → CodeRun (a .state) xs r → r .run .stands ≡ false
-    → (s : states.State) × (r ≡ packedState s) × runs.AcceptedRun whole (runs.restarted s) (runs.replayed (s .trail)) s
+    → (s : states.State) × (r ≡ packedState s) × runs.AcceptedRun (plain whole) (runs.restarted s) (runs.replayed (s .trail)) s

@@ -1,12 +1,12 @@
 // A state with its clauses: only admission makes it and only steps change it.
 ghost use mathlib.Core.Path.{_≡_};
-ghost use Prim.Native.Nat.{_≤_, _<_};
+ghost use Prim.Native.Nat.{_≤_};
 ghost use Rattle.basis.specs.Limits.{mostClauses, mostPredicates};
 ghost use Rattle.lists.specs.Arrays.{exactly};
 ghost use Rattle.calculus.specs.Clauses as calculus;
 ghost use Rattle.clauses.specs.Records.{packed};
 ghost use Rattle.admission.specs.Offered.{offeredArities, offeredTable};
-ghost use Rattle.state.specs.States.{Answers, IsNew, Kept, lookedAt, newRun, opened, slotOf};
+ghost use Rattle.state.specs.States.{Answers, IsNew, Made, newRun, opened};
 use basis::MOST_CLAUSES;
 use basis::MOST_INPUT;
 use basis::MOST_PREDICATES;
@@ -16,7 +16,9 @@ use clauses::no_instanced;
 use rules::Run;
 use rules::Step;
 use rules::last_slot;
-use trail::Entry;
+use rules::looked_at;
+use rules::number_looked;
+use rules::slot_of;
 use trail::empty_trail;
 
 // "A state is predicates with arities, trail, input clauses, learned clauses, constants, level k, and a conflict or none." The fields are
@@ -146,58 +148,39 @@ pub fn admit(
 
 // ---- steps
 
-// The number of the clause that a step looks at: the named one; Resolve looks at the last entry's, which is none's where the trail is empty.
-pub fn looked_at(last: Entry, x: Step) -> u8
-    ensures { λ r. ⌜ r ≡ lookedAt last x ⌝ }
-{
-    if x.rule == 4 {
-        return last.clause;
-    }
-    x.clause
-}
-
-// The slot of a clause's number; of a number that no table has, any
-pub fn slot_of(c: u8) -> usize
-    ensures { λ r. ⌜ (r ≡ slotOf c) × (r < mostClauses) ⌝ }
-{
-    if c < 1 {
-        return 0;
-    }
-    if MOST_CLAUSES < c as usize {
-        return 0;
-    }
-    c as usize - 1
-}
-
 impl State {
-    // "The tool takes a state and one proposed step and hands a state back, with a number (0 for accepted) and a place." The one clause that
-    // the step looks at is copied out; only Backtrack writes the table.
+    // "The tool takes a state and one proposed step and hands a state back, with a number (0 for accepted) and a place." What the step looks at
+    // is copied out of the table; what it learns is written there.
     pub fn step(self, x: Step) -> Answered
-        requires { ⌜ Kept self ⌝ }
+        requires { ⌜ Made self ⌝ }
         ensures { λ a. ⌜ Answers self x a ⌝ }
     {
         let run = self.run;
-        let slot = last_slot(run.length);
-        let last = run.trail[slot];
-        let c = looked_at(last, x);
-        let k = slot_of(c);
-        let clause = self.table[k];
-        let a = run.step(clause, x);
+        let last = run.trail[last_slot(run.length)];
+        let c = number_looked(last, x);
+        let held = self.table[slot_of(c)];
+        let looked = looked_at(c, held);
+        let rule = x.rule;
+        let instance = x.instance;
+        let a = match rule {
+            1 => run.propagate(looked, x.clause, x.literal, instance, x.count),
+            2 => run.decide(looked, x.clause, x.literal, x.sign, instance, x.count),
+            3 => run.conflict(looked, x.clause, instance, x.count),
+            4 => run.resolve(looked, x.literal),
+            5 => run.factorize(x.literal, x.other),
+            6 => run.skip(),
+            7 => run.backtrack(x.literal),
+            8 => run.grow(x.amount),
+            _ => run.unknown(rule),
+        };
         let next = a.run;
+        let learned = a.learned as usize;
         let mut state = self;
         state.run = next;
-        if a.number == 0 {
-            if x.rule == 7 {
-                let n = run.conflict;
-                let learned = n.clause;
-                let at = run.input as usize + run.learned as usize;
-                state.table[at] = learned;
-                return Answered {
-                    state: state,
-                    number: 0,
-                    place: a.place,
-                };
-            }
+        if 0 < learned {
+            let n = run.conflict;
+            let clause = n.clause;
+            state.table[learned - 1] = clause;
         }
         Answered {
             state: state,

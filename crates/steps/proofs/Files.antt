@@ -16,6 +16,7 @@ use Rattle.header.specs.declared.HeaderRead.{HeaderRead}
 use Rattle.rules.specs.Records.{stepOf}
 use Rattle.steps.specs.Records.{fileAnswer, packedStep, stepAnswer}
 use Rattle.steps.specs.declared.StepRead.{StepRead}
+use Rattle.steps.proofs.Parts.{saying}
 use Rattle.steps.proofs.Said.{step-said}
 
 -- The header of the file F, with the place of its first step
@@ -37,9 +38,6 @@ pub record Reads (s : List ℕ) (h : HeaderRead) (first : ℕ) : Type 0 where
   pub input : inputOf (header s 0) ≡ says .input
   pub sayable : Sayable says
   pub ahead : Ahead s first (says .steps)
-
-abbrev saying : Header → List calculus.Step → File
-saying h xs = record { constants = h .constants; arities = h .arities; input = h .input; steps = xs }
 
 -- The file is read to its end, or refused on the way.
 data Taken (s : List ℕ) : Type 0 where

@@ -122,7 +122,8 @@ module _ {A B : Type 0} where
 pub step-ends : (s : List ℕ) (c₁ c₂ : Cursor) (x : Step) → Packs s step c₁ c₂ x → c₂ ≡ reached (after c₁ (step s))
 step-ends s c₁ c₂ x e = reached-of c₂ x e ∙ reached-through s c₁ step packedStep
 
-abbrev saying : Header → List calculus.Step → File
+-- The file of this header and these steps
+abbrev pub saying : Header → List calculus.Step → File
 saying h xs = record { constants = h .constants; arities = h .arities; input = h .input; steps = xs }
 
 module _ (s : List ℕ) where

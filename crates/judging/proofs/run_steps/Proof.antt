@@ -1,16 +1,24 @@
 -- `judging::run_steps` meets its contract. The loop's invariant: the run so far; the measure: the steps still to be tried.
 use borrow.Author.Needs.{needs}
 use mathlib.Core.Path.{_≡_, refl, ap, _∙_}
-use mathlib.Core.Logic.{⊎-elim, inl, inr}
-use Prim.Native.Nat.{_-_}
+use mathlib.Core.Logic.{⊎-elim}
+use Prim.Native.Nat.{_+_, _-_, _≤_}
 use native.Mathlib.Omega.{arith}
 use denote.Ref.{now}
-use Rattle.rules.specs.declared.Change.the-variants.{Decided, Skipped, Replaced, Grown}
-use Rattle.rules.proofs.Runs.{kept-small}
 use lib.ListN.{length}
-use Rattle.judging.proofs.Judging.{last-fits, leaves-as, listed, recorded, shown, state-fits}
-use Rattle.judging.proofs.Running.{Ran, SoFar, ran-as, decision-fits, done, effect-done, grown, handed, kept, line-fits, seen, skipped, slot-free, start, stop, stop-made, turn-learns, turn-made, turn-same}
+use Rattle.basis.specs.Limits.{mostClauses}
+use Rattle.runfile.specs.File.{mostSteps}
+use Rattle.rules.specs.Answers.{Answered, Handed, Kept, Told}
+use Rattle.rules.specs.Records.{stepOf}
+use Rattle.rules.specs.declared.Step.{Step}
+use Rattle.rules.proofs.Runs.{kept-small}
+use Rattle.rules.proofs.Steps.{answered-as, answers-as, backtrack-step, conflict-step, decide-step, factorize-step, grow-step, handed-as, propagate-step, resolve-step, skip-step, unknown-step}
+use Rattle.state.specs.States.{tableAfter}
+use Rattle.state.proofs.Table.{slot-free, table-left, table-written}
 use Rattle.text.proofs.Text.{same-long}
+use Rattle.listing.specs.Lines.{mostLine}
+use Rattle.judging.proofs.Judging.{last-fits, leaves-as, listed, recorded, shown, state-fits}
+use Rattle.judging.proofs.Running.{Ran, SoFar, done, handed, kept, line-fits, ran-as, start, stop, told-of, turn}
 use Rattle.judging.proofs.run_steps.Statement.{statement}
 use Rattle.judging.proofs.run_steps.Tie as tie
 use Rattle.judging.proofs.run_steps.Reads as reads
@@ -21,23 +29,94 @@ use Rattle.judging.proofs.place_of.Reads as place-of-reads
 use Rattle.listing.proofs.put_accepted.Reads as put-accepted-reads
 use Rattle.listing.proofs.put_last.Reads as put-last-reads
 use Rattle.listing.proofs.put_refused.Reads as put-refused-reads
-use Rattle.rules.proofs.Run.step.Reads as step-reads
-use Rattle.rules.proofs.Top.effect.Reads as effect-reads
-use Rattle.rules.proofs.is_free.Reads as is-free-reads
+use Rattle.rules.proofs.Run.backtrack.Reads as backtrack-reads
+use Rattle.rules.proofs.Run.conflict.Reads as conflict-reads
+use Rattle.rules.proofs.Run.decide.Reads as decide-reads
+use Rattle.rules.proofs.Run.factorize.Reads as factorize-reads
+use Rattle.rules.proofs.Run.grow.Reads as grow-reads
+use Rattle.rules.proofs.Run.propagate.Reads as propagate-reads
+use Rattle.rules.proofs.Run.resolve.Reads as resolve-reads
+use Rattle.rules.proofs.Run.skip.Reads as skip-reads
+use Rattle.rules.proofs.Run.unknown.Reads as unknown-reads
 use Rattle.rules.proofs.last_slot.Reads as last-slot-reads
-use Rattle.state.proofs.looked_at.Reads as looked-at-reads
+use Rattle.rules.proofs.looked_at.Reads as looked-at-reads
+use Rattle.rules.proofs.number_looked.Reads as number-looked-reads
+use Rattle.rules.proofs.slot_of.Reads as slot-of-reads
 use Rattle.state.proofs.new_run.Reads as new-run-reads
-use Rattle.state.proofs.slot_of.Reads as slot-of-reads
 use Rattle.steps.proofs.step_at.Reads as step-at-reads
-use Rattle.trail.proofs.empty_trail.Reads as empty-trail-reads
-use Rattle.trail.proofs.no_entry.Reads as no-entry-reads
 
 abbrev Inv-steps : tie.InvT-steps
-Inv-steps file first out₀ shown n run₀ table₀ blank cursor₀ at₀ number₀ place₀ j₀ out run table cursor at number place j =
+Inv-steps file first out₀ shown n run₀ table₀ cursor₀ at₀ number₀ place₀ j₀ out run table cursor at number place j =
     (number ≡ 0) × (place ≡ 0) × SoFar file out₀ n out run table cursor at j
 
 abbrev μ-steps : tie.MeasureT-steps
-μ-steps file first out₀ shown n run₀ table₀ blank cursor₀ at₀ number₀ place₀ j₀ out run table cursor at number place j = n - j
+μ-steps file first out₀ shown n run₀ table₀ cursor₀ at₀ number₀ place₀ j₀ out run table cursor at number place j = n - j
+
+abbrev claims : lts.Claims
+claims = (new-run-reads.Asked, new-run-reads.Learnt, read-clauses-reads.Asked, read-clauses-reads.Learnt, step-at-reads.Asked, step-at-reads.Learnt, last-slot-reads.Asked, last-slot-reads.Learnt, number-looked-reads.Asked, number-looked-reads.Learnt, slot-of-reads.Asked, slot-of-reads.Learnt, looked-at-reads.Asked, looked-at-reads.Learnt, propagate-reads.Asked, propagate-reads.Learnt, decide-reads.Asked, decide-reads.Learnt, conflict-reads.Asked, conflict-reads.Learnt, resolve-reads.Asked, resolve-reads.Learnt, factorize-reads.Asked, factorize-reads.Learnt, skip-reads.Asked, skip-reads.Learnt, backtrack-reads.Asked, backtrack-reads.Learnt, grow-reads.Asked, grow-reads.Learnt, unknown-reads.Asked, unknown-reads.Learnt, put-refused-reads.Asked, put-refused-reads.Learnt, put-accepted-reads.Asked, put-accepted-reads.Learnt, place-of-reads.Asked, place-of-reads.Learnt, put-last-reads.Asked, put-last-reads.Learnt, put-state-reads.Asked, put-state-reads.Learnt)
+
+-- ---- a turn: there is one more step, ..
+abbrev Turn : Type 0
+Turn = lts.In-steps claims reads.Pre reads.Post Inv-steps μ-steps
+
+line-room : (c : Turn) → (c .before .steps .j + 1 ≤ mostSteps) × (c .before .steps .at + mostLine ≤ length (c .before .steps .out))
+line-room c = line-fits (c .before .steps .inv .2) (c .steps-test .taken) (c .before .before .before .before .before .before .before .args .shown) (c .before .before .before .before .before .before .before .pre .2)
+
+-- .. what its rule is handed stands ready, ..
+abbrev Ready : Type 0
+Ready = lts.After-instance claims reads.Pre reads.Post Inv-steps μ-steps
+
+abbrev step-of : Ready → Step
+step-of c = c .before .before .before .before .before .before .before .before .step-at .result .step
+
+of-run : (c : Ready) → Kept (c .before .before .before .before .before .before .before .before .before .before .steps .run)
+of-run c = kept (c .before .before .before .before .before .before .before .before .before .before .steps .inv .2)
+
+ready : (c : Ready) → Handed (c .before .before .before .before .before .before .before .before .before .before .steps .run) (c .before .looked-at .result) (stepOf (step-of c))
+ready c = handed (c .before .before .before .before .before .before .before .before .before .before .steps .inv .2) (step-of c) (c .before .before .before .before .before .before .last-slot .ensures) (c .before .before .before .before .number-looked .ensures) (c .before .before .before .slot-of .ensures .0) (c .before .looked-at .ensures)
+
+-- .. and it has answered, whichever it is.
+abbrev Came : Type 0
+Came = lts.At-match-came claims reads.Pre reads.Post Inv-steps μ-steps
+
+answered : (c : Came) → Answered (c .before .before .before .before .before .before .before .before .before .before .before .steps .run) (c .before .before .looked-at .result) (stepOf (step-of (c .before))) (c .match .a)
+answered c =
+    let x = step-of (c .before) in
+    (⊎-elim (λ w. answered-as (propagate-step x (w .0 .keys1)) (w .2) (w .1 .ensures))
+    (⊎-elim (λ w. answered-as (decide-step x (w .0 .keys2)) (w .2) (w .1 .ensures))
+    (⊎-elim (λ w. answered-as (conflict-step x (w .0 .keys3)) (w .2) (w .1 .ensures))
+    (⊎-elim (λ w. answered-as (resolve-step x (w .0 .keys4)) (w .2) (w .1 .ensures))
+    (⊎-elim (λ w. answers-as (factorize-step x (w .0 .keys5)) (w .2) (w .1 .ensures))
+    (⊎-elim (λ w. answers-as (skip-step x (w .0 .keys6)) (w .2) (w .1 .ensures))
+    (⊎-elim (λ w. answers-as (backtrack-step x (w .0 .keys7)) (w .2) (w .1 .ensures))
+    (⊎-elim (λ w. answers-as (grow-step x (w .0 .keys8)) (w .2) (w .1 .ensures))
+    (λ w. answers-as (unknown-step x (w .0 .rest .0 .0 .0 .0 .0 .0 .0 .1) (w .0 .rest .0 .0 .0 .0 .0 .0 .1) (w .0 .rest .0 .0 .0 .0 .0 .1) (w .0 .rest .0 .0 .0 .0 .1) (w .0 .rest .0 .0 .0 .1) (w .0 .rest .0 .0 .1) (w .0 .rest .0 .1) (w .0 .rest .1)) (w .2) (w .1 .ensures))))))))))
+    (c .match .came)
+
+told : (c : Came) → Told (c .before .before .before .before .before .before .before .before .before .before .before .steps .inv .2 .state) (stepOf (step-of (c .before))) (c .match .a)
+told c = told-of (c .before .before .before .before .before .before .before .before .before .before .before .steps .inv .2) (step-of (c .before)) (c .before .before .before .before .before .before .before .last-slot .ensures) (c .before .before .before .before .before .number-looked .ensures) (c .before .before .before .before .slot-of .ensures .0) (c .before .before .looked-at .ensures) (answered c)
+
+learned-fits : (c : Came) → c .match .a .learned ≤ mostClauses
+learned-fits c = slot-free (c .before .before .before .before .before .before .before .before .before .before .before .steps .inv .2 .run-of) (stepOf (step-of (c .before))) (c .match .a) (told c)
+
+-- What was learned is written.
+abbrev Learned : Type 0
+Learned = lts.Joined2 claims reads.Pre reads.Post Inv-steps μ-steps
+
+written : (c : Learned) → c .if2 .table ≡ tableAfter (c .before .before .before .before .before .before .before .before .before .before .before .before .before .before .before .steps .table) (c .before .before .before .before .before .before .before .before .before .before .before .before .before .before .before .steps .run) (c .before .before .before .before .match .a)
+written c =
+    ⊎-elim (λ w. w .3 ∙ table-written (c .before .before .before .before .before .before .before .before .before .before .before .before .before .before .before .steps .table) (c .before .before .before .before .before .before .before .before .before .before .before .before .before .before .before .steps .run) (c .before .before .before .before .match .a) (w .0 .taken))
+    (λ w. w .1 ∙ table-left (c .before .before .before .before .before .before .before .before .before .before .before .before .before .before .before .steps .table) (c .before .before .before .before .before .before .before .before .before .before .before .before .before .before .before .steps .run) (c .before .before .before .before .match .a) (w .0 .left)) (c .if2 .came)
+
+-- ---- after the loop, whichever way it was left
+abbrev Left : Type 0
+Left = lts.Left-steps claims reads.Pre reads.Post Inv-steps μ-steps
+
+ran : (c : Left) → Ran (now (c .before .before .before .before .before .before .before .args .file)) (now (c .before .before .before .before .before .before .before .args .out)) (c .steps-test .out) (c .before .steps .run) (c .before .steps .table) (c .steps-test .number) (c .steps-test .place) (c .steps-test .at)
+ran c = ⊎-elim
+    (λ w. ran-as (done (c .before .steps .inv .2) (w .0 .left)) (w .1) (w .2) (w .3 ∙ c .before .steps .inv .0) (w .4 ∙ c .before .steps .inv .1))
+    (λ w. ran-as (stop (c .before .steps .inv .2) (w .0 .taken) (w .1 .ensures) (told (record { before = record { before = record { before = record { before = record { before = record { before = record { before = record { before = record { before = record { before = record { before = c .before; steps-test = w .0 }; step-at = w .1 }; x = w .2 }; last-slot = w .3 }; last = w .4 }; number-looked = w .5 }; slot-of = w .6 }; held = w .7 }; looked-at = w .8 }; instance = w .9 }; match = w .10 })) (w .12 .taken) (w .14 .ensures)) (w .17) (w .18) (w .19) (w .20))
+    (c .steps-test .came)
 
 cast-n : tie.Need-cast-n Inv-steps μ-steps
 cast-n c = search needs
@@ -48,11 +127,8 @@ new-run-requires c κs = search needs
 read-clauses-requires : tie.Need-read-clauses-requires Inv-steps μ-steps
 read-clauses-requires c κs = search needs
 
-empty-trail-requires : tie.Need-empty-trail-requires Inv-steps μ-steps
-empty-trail-requires c κs = search needs
-
 steps-holds : tie.Need-steps-holds Inv-steps μ-steps
-steps-holds c = (refl, refl, start (now (c .before .before .before .before .before .before .args .file)) (now (c .before .before .before .before .before .before .args .out)) (c .before .before .before .before .before .before .args .head) (c .before .before .before .before .before .before .args .first) (c .before .before .before .before .before .before .pre .0) (c .before .before .before .before .before .before .pre .1) (c .before .before .new-run .ensures) (c .before .read-clauses .ensures))
+steps-holds c = (refl, refl, start (now (c .before .before .before .before .before .args .file)) (now (c .before .before .before .before .before .args .out)) (c .before .before .before .before .before .args .head) (c .before .before .before .before .before .args .first) (c .before .before .before .before .before .pre .0) (c .before .before .before .before .before .pre .1) (c .before .new-run .ensures) (c .read-clauses .ensures))
 
 step-at-requires : tie.Need-step-at-requires Inv-steps μ-steps
 step-at-requires c κs = search needs
@@ -66,150 +142,97 @@ mul-last c = omega (arith, c .last-slot .ensures, kept-small (kept (c .before .b
 element-copy-out-last : tie.Need-element-copy-out-last Inv-steps μ-steps
 element-copy-out-last c = omega (arith, c .last-slot .ensures, kept-small (kept (c .before .before .before .before .steps .inv .2)) .few-entries)
 
-looked-at-requires : tie.Need-looked-at-requires Inv-steps μ-steps
-looked-at-requires c κs = search needs
+number-looked-requires : tie.Need-number-looked-requires Inv-steps μ-steps
+number-looked-requires c κs = search needs
 
 slot-of-requires : tie.Need-slot-of-requires Inv-steps μ-steps
 slot-of-requires c κs = search needs
 
-mul-clause : tie.Need-mul-clause Inv-steps μ-steps
-mul-clause c = search needs
+mul-held : tie.Need-mul-held Inv-steps μ-steps
+mul-held c = search needs
 
-array-copy-out-clause : tie.Need-array-copy-out-clause Inv-steps μ-steps
-array-copy-out-clause c = search needs
+array-copy-out-held : tie.Need-array-copy-out-held Inv-steps μ-steps
+array-copy-out-held c = search needs
 
-is-free-requires : tie.Need-is-free-requires Inv-steps μ-steps
-is-free-requires c κs = kept-small (kept (c .before .before .before .before .before .before .before .before .before .before .before .before .steps .inv .2)) .few-entries
+looked-at-requires : tie.Need-looked-at-requires Inv-steps μ-steps
+looked-at-requires c κs = search needs
 
-effect-requires : tie.Need-effect-requires Inv-steps μ-steps
-effect-requires c κs = seen (c .before .before .before .before .before .before .before .before .before .before .before .steps .inv .2) (c .before .before .before .before .before .before .before .last-slot .ensures)
+propagate-requires : tie.Need-propagate-requires Inv-steps μ-steps
+propagate-requires c κs = handed-as (propagate-step (step-of (c .before)) (c .match .keys1)) (ready (c .before))
 
-enum-told : tie.Need-enum-told Inv-steps μ-steps
-enum-told c = search needs
+decide-requires : tie.Need-decide-requires Inv-steps μ-steps
+decide-requires c κs = handed-as (decide-step (step-of (c .before)) (c .match .keys2)) (ready (c .before))
 
-step-requires : tie.Need-step-requires Inv-steps μ-steps
-step-requires c κs = handed (c .before .before .before .before .before .before .before .before .before .before .before .before .before .before .steps .inv .2) (c .before .before .before .before .before .before .before .before .before .before .before .before .step-at .result .step) (c .before .before .before .before .before .before .before .before .before .before .last-slot .ensures) (c .before .before .before .before .before .before .before .before .looked-at .ensures) (c .before .before .before .before .before .before .before .slot-of .ensures .0)
+conflict-requires : tie.Need-conflict-requires Inv-steps μ-steps
+conflict-requires c κs = handed-as (conflict-step (step-of (c .before)) (c .match .keys3)) (ready (c .before))
+
+resolve-requires : tie.Need-resolve-requires Inv-steps μ-steps
+resolve-requires c κs = handed-as (resolve-step (step-of (c .before)) (c .match .keys4)) (ready (c .before))
+
+factorize-requires : tie.Need-factorize-requires Inv-steps μ-steps
+factorize-requires c κs = of-run (c .before)
+
+skip-requires : tie.Need-skip-requires Inv-steps μ-steps
+skip-requires c κs = of-run (c .before)
+
+backtrack-requires : tie.Need-backtrack-requires Inv-steps μ-steps
+backtrack-requires c κs = of-run (c .before)
+
+grow-requires : tie.Need-grow-requires Inv-steps μ-steps
+grow-requires c κs = of-run (c .before)
+
+unknown-requires : tie.Need-unknown-requires Inv-steps μ-steps
+unknown-requires c κs = of-run (c .before)
 
 add-put-refused : tie.Need-add-put-refused Inv-steps μ-steps
-add-put-refused c = omega (arith, c .before .before .before .before .before .before .before .before .before .before .before .before .before .before .before .before .before .before .steps .inv .2 .few, c .before .before .before .before .before .before .before .before .before .before .before .before .before .before .before .before .before .steps-test .taken)
+add-put-refused c = omega (arith, line-room (c .before .before .before .before .before .before .before .before .before .before .before .before .before) .0)
 
 put-refused-requires : tie.Need-put-refused-requires Inv-steps μ-steps
-put-refused-requires c κs = line-fits (c .before .before .before .before .before .before .before .before .before .before .before .before .before .before .before .before .before .before .steps .inv .2) (c .before .before .before .before .before .before .before .before .before .before .before .before .before .before .before .before .before .steps-test .taken) (c .before .before .before .before .before .before .before .before .before .before .before .before .before .before .before .before .before .before .before .before .before .before .before .before .before .args .shown) (c .before .before .before .before .before .before .before .before .before .before .before .before .before .before .before .before .before .before .before .before .before .before .before .before .before .pre .2)
+put-refused-requires c κs = line-room (c .before .before .before .before .before .before .before .before .before .before .before .before .before)
 
-cast-next : tie.Need-cast-next Inv-steps μ-steps
-cast-next c = omega (arith, kept-small (kept (c .before .before .before .before .before .before .before .before .before .before .before .before .before .before .before .before .before .before .before .before .steps .inv .2)) .few-input)
+cast-learned : tie.Need-cast-learned Inv-steps μ-steps
+cast-learned c = search needs
 
-cast-next-2 : tie.Need-cast-next-2 Inv-steps μ-steps
-cast-next-2 c = omega (arith, kept-small (kept (c .before .before .before .before .before .before .before .before .before .before .before .before .before .before .before .before .before .before .before .before .steps .inv .2)) .few-learned)
-
-add-next : tie.Need-add-next Inv-steps μ-steps
-add-next c = omega (arith, kept-small (kept (c .before .before .before .before .before .before .before .before .before .before .before .before .before .before .before .before .before .before .before .before .steps .inv .2)) .few-input, kept-small (kept (c .before .before .before .before .before .before .before .before .before .before .before .before .before .before .before .before .before .before .before .before .steps .inv .2)) .few-learned)
+sub-table : tie.Need-sub-table Inv-steps μ-steps
+sub-table c = search needs
 
 mul-table : tie.Need-mul-table Inv-steps μ-steps
-mul-table c = omega (arith, kept-small (kept (c .before .before .before .before .before .before .before .before .before .before .before .before .before .before .before .before .before .before .before .before .steps .inv .2)) .few-input, kept-small (kept (c .before .before .before .before .before .before .before .before .before .before .before .before .before .before .before .before .before .before .before .before .steps .inv .2)) .few-learned)
+mul-table c = search needs
 
 array-set-from-table : tie.Need-array-set-from-table Inv-steps μ-steps
-array-set-from-table c = slot-free (c .before .before .before .before .before .before .before .before .before .before .before .before .before .before .before .before .before .before .before .before .steps .inv .2) (c .before .before .before .before .before .before .before .before .before .before .before .before .before .before .before .before .before .before .before .steps-test .taken) (c .before .before .before .before .before .before .before .before .before .before .before .before .before .before .before .before .before .before .step-at .ensures) (c .before .before .before .before .before .before .before .before .before .before .before .before .before .before .before .before .last-slot .ensures) (c .before .before .before .before .before .before .before .before .before .before .before .before .before .before .looked-at .ensures) (c .before .before .before .before .before .before .before .before .before .before .before .before .before .slot-of .ensures .0) (c .before .before .before .before .before .step .result) (c .before .before .before .before .before .step .ensures) (c .before .before .before .if2 .left) (c .before .if3 .taken)
-
-enum-known-change : tie.Need-enum-known-change Inv-steps μ-steps
-enum-known-change c = search needs
-
-add-put-refused-2 : tie.Need-add-put-refused-2 Inv-steps μ-steps
-add-put-refused-2 c = omega (arith, c .before .before .before .before .before .before .before .before .before .before .before .before .before .before .before .before .steps .inv .2 .few, c .before .before .before .before .before .before .before .before .before .before .before .before .before .before .before .steps-test .taken)
-
-put-refused-requires-2 : tie.Need-put-refused-requires-2 Inv-steps μ-steps
-put-refused-requires-2 c κs = line-fits (c .before .before .before .before .before .before .before .before .before .before .before .before .before .before .before .before .steps .inv .2) (c .before .before .before .before .before .before .before .before .before .before .before .before .before .before .before .steps-test .taken) (c .before .before .before .before .before .before .before .before .before .before .before .before .before .before .before .before .before .before .before .before .before .before .before .args .shown) (c .before .before .before .before .before .before .before .before .before .before .before .before .before .before .before .before .before .before .before .before .before .before .before .pre .2)
-
-enum-told-2 : tie.Need-enum-told-2 Inv-steps μ-steps
-enum-told-2 c = search needs
-
-cast-next-3 : tie.Need-cast-next-3 Inv-steps μ-steps
-cast-next-3 c = omega (arith, kept-small (kept (c .before .before .before .before .before .before .before .before .before .before .before .before .before .before .before .steps .inv .2)) .few-entries)
-
-add-run : tie.Need-add-run Inv-steps μ-steps
-add-run c = omega (arith, decision-fits (effect-done (c .before .before .before .before .before .before .before .before .before .before .before .before .before .before .before .steps .inv .2) (c .before .before .before .before .before .before .before .before .before .before .before .before .before .step-at .result .step) (c .before .before .before .before .before .before .before .before .before .before .before .last-slot .ensures) (c .before .before .before .before .before .before .before .before .before .looked-at .ensures) (c .before .before .before .before .before .before .before .before .slot-of .ensures .0) (⊎-elim (λ w. inl (w .0 .taken, w .4 ∙ w .3 .ensures)) (λ w. inr (w .0 .left, w .1)) (c .before .before .before .before .before .if1 .came)) (c .before .before .before .effect .ensures)) (c .before .enum-told2 .given .1) .1)
-
-add-run-2 : tie.Need-add-run-2 Inv-steps μ-steps
-add-run-2 c = omega (arith, decision-fits (effect-done (c .before .before .before .before .before .before .before .before .before .before .before .before .before .before .before .steps .inv .2) (c .before .before .before .before .before .before .before .before .before .before .before .before .before .step-at .result .step) (c .before .before .before .before .before .before .before .before .before .before .before .last-slot .ensures) (c .before .before .before .before .before .before .before .before .before .looked-at .ensures) (c .before .before .before .before .before .before .before .before .slot-of .ensures .0) (⊎-elim (λ w. inl (w .0 .taken, w .4 ∙ w .3 .ensures)) (λ w. inr (w .0 .left, w .1)) (c .before .before .before .before .before .if1 .came)) (c .before .before .before .effect .ensures)) (c .before .enum-told2 .given .1) .0)
-
-mul-entry : tie.Need-mul-entry Inv-steps μ-steps
-mul-entry c = omega (arith, decision-fits (effect-done (c .before .before .before .before .before .before .before .before .before .before .before .before .before .before .before .steps .inv .2) (c .before .before .before .before .before .before .before .before .before .before .before .before .before .step-at .result .step) (c .before .before .before .before .before .before .before .before .before .before .before .last-slot .ensures) (c .before .before .before .before .before .before .before .before .before .looked-at .ensures) (c .before .before .before .before .before .before .before .before .slot-of .ensures .0) (⊎-elim (λ w. inl (w .0 .taken, w .4 ∙ w .3 .ensures)) (λ w. inr (w .0 .left, w .1)) (c .before .before .before .before .before .if1 .came)) (c .before .before .before .effect .ensures)) (c .before .enum-told2 .given .1) .0)
-
-element-set-from-entry : tie.Need-element-set-from-entry Inv-steps μ-steps
-element-set-from-entry c = omega (arith, decision-fits (effect-done (c .before .before .before .before .before .before .before .before .before .before .before .before .before .before .before .steps .inv .2) (c .before .before .before .before .before .before .before .before .before .before .before .before .before .step-at .result .step) (c .before .before .before .before .before .before .before .before .before .before .before .last-slot .ensures) (c .before .before .before .before .before .before .before .before .before .looked-at .ensures) (c .before .before .before .before .before .before .before .before .slot-of .ensures .0) (⊎-elim (λ w. inl (w .0 .taken, w .4 ∙ w .3 .ensures)) (λ w. inr (w .0 .left, w .1)) (c .before .before .before .before .before .if1 .came)) (c .before .before .before .effect .ensures)) (c .before .enum-told2 .given .1) .0)
-
-enum-known-change-2 : tie.Need-enum-known-change-2 Inv-steps μ-steps
-enum-known-change-2 c = search needs
-
-no-entry-requires : tie.Need-no-entry-requires Inv-steps μ-steps
-no-entry-requires c κs = search needs
-
-cast-run : tie.Need-cast-run Inv-steps μ-steps
-cast-run c = omega (arith, c .before .before .before .before .before .before .before .before .before .before .before .before .last-slot .ensures, kept-small (kept (c .before .before .before .before .before .before .before .before .before .before .before .before .before .before .before .before .steps .inv .2)) .few-entries)
-
-mul-none : tie.Need-mul-none Inv-steps μ-steps
-mul-none c = omega (arith, c .before .before .before .before .before .before .before .before .before .before .before .before .last-slot .ensures, kept-small (kept (c .before .before .before .before .before .before .before .before .before .before .before .before .before .before .before .before .steps .inv .2)) .few-entries)
-
-element-set-from-none : tie.Need-element-set-from-none Inv-steps μ-steps
-element-set-from-none c = omega (arith, c .before .before .before .before .before .before .before .before .before .before .before .before .last-slot .ensures, kept-small (kept (c .before .before .before .before .before .before .before .before .before .before .before .before .before .before .before .before .steps .inv .2)) .few-entries)
-
-enum-told-3 : tie.Need-enum-told-3 Inv-steps μ-steps
-enum-told-3 c = search needs
-
-enum-known-change-3 : tie.Need-enum-known-change-3 Inv-steps μ-steps
-enum-known-change-3 c = search needs
+array-set-from-table c = omega (arith, c .before .before .if2 .taken, learned-fits (c .before .before .before .before .before .before))
 
 add-put-accepted : tie.Need-add-put-accepted Inv-steps μ-steps
-add-put-accepted c = omega (arith, c .before .before .before .before .before .before .before .before .before .before .before .before .before .before .steps .inv .2 .few, c .before .before .before .before .before .before .before .before .before .before .before .before .before .steps-test .taken)
+add-put-accepted c = omega (arith, line-room (c .before .before .before .before .before .before .before .before .before .before .before .before .before .before .before .before) .0)
 
 put-accepted-requires : tie.Need-put-accepted-requires Inv-steps μ-steps
-put-accepted-requires c κs = line-fits (c .before .before .before .before .before .before .before .before .before .before .before .before .before .before .steps .inv .2) (c .before .before .before .before .before .before .before .before .before .before .before .before .before .steps-test .taken) (c .before .before .before .before .before .before .before .before .before .before .before .before .before .before .before .before .before .before .before .before .before .args .shown) (c .before .before .before .before .before .before .before .before .before .before .before .before .before .before .before .before .before .before .before .before .before .pre .2)
+put-accepted-requires c κs = line-room (c .before .before .before .before .before .before .before .before .before .before .before .before .before .before .before .before)
 
 place-of-requires : tie.Need-place-of-requires Inv-steps μ-steps
 place-of-requires c κs = search needs
 
 add-j : tie.Need-add-j Inv-steps μ-steps
-add-j c = record { fits = omega (arith, c .before .before .before .before .before .before .before .before .before .before .before .before .before .before .before .before .before .before .steps .inv .2 .few, c .before .before .before .before .before .before .before .before .before .before .before .before .before .before .before .before .before .steps-test .taken) }
+add-j c = record { fits = omega (arith, line-room (c .before .before .before .before .before .before .before .before .before .before .before .before .before .before .before .before .before .before .before .before) .0) }
 
 steps-less : tie.Need-steps-less Inv-steps μ-steps
-steps-less c = search needs
+steps-less c = omega (arith, c .before .before .before .before .before .before .before .before .before .before .before .before .before .before .before .before .before .before .before .before .steps-test .taken)
 
 steps-again : tie.Need-steps-again Inv-steps μ-steps
-steps-again c = (
-  c .before .before .before .before .before .before .before .before .before .before .before .before .before .before .before .before .before .before .steps .inv .0,
-  c .before .before .before .before .before .before .before .before .before .before .before .before .before .before .before .before .before .before .steps .inv .1,
-  let D = (effect-done (c .before .before .before .before .before .before .before .before .before .before .before .before .before .before .before .before .before .before .steps .inv .2) (c .before .before .before .before .before .before .before .before .before .before .before .before .before .before .before .before .step-at .result .step) (c .before .before .before .before .before .before .before .before .before .before .before .before .before .before .last-slot .ensures) (c .before .before .before .before .before .before .before .before .before .before .before .before .looked-at .ensures) (c .before .before .before .before .before .before .before .before .before .before .before .slot-of .ensures .0) (⊎-elim (λ w. inl (w .0 .taken, w .4 ∙ w .3 .ensures)) (λ w. inr (w .0 .left, w .1)) (c .before .before .before .before .before .before .before .before .if1 .came)) (c .before .before .before .before .before .before .effect .ensures)) in
-      ⊎-elim (λ w. ⊎-elim (λ u. turn-learns (c .before .before .before .before .before .before .before .before .before .before .before .before .before .before .before .before .before .before .steps .inv .2) (c .before .before .before .before .before .before .before .before .before .before .before .before .before .before .before .before .before .steps-test .taken) (c .before .before .before .before .before .before .before .before .before .before .before .before .before .before .before .before .step-at .ensures) (c .before .before .before .before .before .before .before .before .before .before .before .before .before .before .last-slot .ensures) (c .before .before .before .before .before .before .before .before .before .before .before .before .looked-at .ensures) (c .before .before .before .before .before .before .before .before .before .before .before .slot-of .ensures .0) (w .2 .result) (w .2 .ensures) (w .4 .left) (w .8) (c .before .before .before .put-accepted .ensures) (c .place-of .ensures) (u .0 .taken) (w .9 ∙ u .2))
-      (λ u. turn-same (c .before .before .before .before .before .before .before .before .before .before .before .before .before .before .before .before .before .before .steps .inv .2) (c .before .before .before .before .before .before .before .before .before .before .before .before .before .before .before .before .before .steps-test .taken) (c .before .before .before .before .before .before .before .before .before .before .before .before .before .before .before .before .step-at .ensures) (c .before .before .before .before .before .before .before .before .before .before .before .before .before .before .last-slot .ensures) (c .before .before .before .before .before .before .before .before .before .before .before .before .looked-at .ensures) (c .before .before .before .before .before .before .before .before .before .before .before .slot-of .ensures .0) (w .2 .result) (w .2 .ensures) (w .4 .left) (w .8) (c .before .before .before .put-accepted .ensures) (c .place-of .ensures) (u .0 .left) (w .9 ∙ u .1)) (w .6 .came))
-      (⊎-elim (λ w. turn-made (c .before .before .before .before .before .before .before .before .before .before .before .before .before .before .before .before .before .before .steps .inv .2) (c .before .before .before .before .before .before .before .before .before .before .before .before .before .before .before .before .before .steps-test .taken) (c .before .before .before .before .before .before .before .before .before .before .before .before .before .before .before .before .step-at .ensures) (c .before .before .before .before .before .before .before .before .before .before .before .before .before .before .last-slot .ensures) (c .before .before .before .before .before .before .before .before .before .before .before .before .looked-at .ensures) (c .before .before .before .before .before .before .before .before .before .before .before .slot-of .ensures .0) D Decided (w .1 .given .1) tt refl (w .3) (c .before .before .before .put-accepted .ensures) (c .place-of .ensures) (w .4))
-      (⊎-elim (λ w. turn-made (c .before .before .before .before .before .before .before .before .before .before .before .before .before .before .before .before .before .before .steps .inv .2) (c .before .before .before .before .before .before .before .before .before .before .before .before .before .before .before .before .before .steps-test .taken) (c .before .before .before .before .before .before .before .before .before .before .before .before .before .before .before .before .step-at .ensures) (c .before .before .before .before .before .before .before .before .before .before .before .before .before .before .last-slot .ensures) (c .before .before .before .before .before .before .before .before .before .before .before .before .looked-at .ensures) (c .before .before .before .before .before .before .before .before .before .before .before .slot-of .ensures .0) D (Skipped _) (w .1 .given .1) tt refl (w .4 ∙ skipped (c .before .before .before .before .before .before .before .before .before .before .before .before .before .before .before .before .before .before .steps .run) _ (c .before .before .before .before .before .before .before .before .before .before .before .before .before .before .last-slot .ensures) (w .3 .ensures)) (c .before .before .before .put-accepted .ensures) (c .place-of .ensures) (w .5))
-      (⊎-elim (λ w. turn-made (c .before .before .before .before .before .before .before .before .before .before .before .before .before .before .before .before .before .before .steps .inv .2) (c .before .before .before .before .before .before .before .before .before .before .before .before .before .before .before .before .before .steps-test .taken) (c .before .before .before .before .before .before .before .before .before .before .before .before .before .before .before .before .step-at .ensures) (c .before .before .before .before .before .before .before .before .before .before .before .before .before .before .last-slot .ensures) (c .before .before .before .before .before .before .before .before .before .before .before .before .looked-at .ensures) (c .before .before .before .before .before .before .before .before .before .before .before .slot-of .ensures .0) D Replaced (w .1 .given .1) tt refl (w .3) (c .before .before .before .put-accepted .ensures) (c .place-of .ensures) (w .4))
-      (λ w. turn-made (c .before .before .before .before .before .before .before .before .before .before .before .before .before .before .before .before .before .before .steps .inv .2) (c .before .before .before .before .before .before .before .before .before .before .before .before .before .before .before .before .before .steps-test .taken) (c .before .before .before .before .before .before .before .before .before .before .before .before .before .before .before .before .step-at .ensures) (c .before .before .before .before .before .before .before .before .before .before .before .before .before .before .last-slot .ensures) (c .before .before .before .before .before .before .before .before .before .before .before .before .looked-at .ensures) (c .before .before .before .before .before .before .before .before .before .before .before .slot-of .ensures .0) D (Grown _) (w .1 .given .1) tt refl (w .3 ∙ grown (c .before .before .before .before .before .before .before .before .before .before .before .before .before .before .before .before .before .before .steps .run) _ (c .before .before .before .before .before .before .before .before .before .before .before .before .before .before .before .before .before .before .before .empty-trail .ensures)) (c .before .before .before .put-accepted .ensures) (c .place-of .ensures) (w .4))))) (c .before .before .before .before .before .match .came),
-)
-
--- After the loop, whichever way it was left
-abbrev Left : Type 0
-Left = lts.Left-steps (new-run-reads.Asked, new-run-reads.Learnt, read-clauses-reads.Asked, read-clauses-reads.Learnt, empty-trail-reads.Asked, empty-trail-reads.Learnt, step-at-reads.Asked, step-at-reads.Learnt, last-slot-reads.Asked, last-slot-reads.Learnt, looked-at-reads.Asked, looked-at-reads.Learnt, slot-of-reads.Asked, slot-of-reads.Learnt, is-free-reads.Asked, is-free-reads.Learnt, effect-reads.Asked, effect-reads.Learnt, step-reads.Asked, step-reads.Learnt, put-refused-reads.Asked, put-refused-reads.Learnt, no-entry-reads.Asked, no-entry-reads.Learnt, put-accepted-reads.Asked, put-accepted-reads.Learnt, place-of-reads.Asked, place-of-reads.Learnt, put-last-reads.Asked, put-last-reads.Learnt, put-state-reads.Asked, put-state-reads.Learnt) reads.Pre reads.Post Inv-steps μ-steps
-
-ran : (c : Left) → Ran (now (c .before .before .before .before .before .before .before .before .args .file)) (now (c .before .before .before .before .before .before .before .before .args .out)) (c .steps-test .out) (c .before .steps .run) (c .before .steps .table) (c .steps-test .number) (c .steps-test .place) (c .steps-test .at)
-ran c = ⊎-elim
-    (λ w. ran-as (done (c .before .steps .inv .2) (w .0 .left)) (w .1) (w .2) (w .3 ∙ c .before .steps .inv .0) (w .4 ∙ c .before .steps .inv .1))
-    (⊎-elim
-    (λ w. ran-as (stop (c .before .steps .inv .2) (w .0 .taken) (w .1 .ensures) (w .3 .ensures) (w .5 .ensures) (w .6 .ensures .0) (w .14 .result) (w .14 .ensures) (w .16 .taken) (w .18 .ensures)) (w .21) (w .22) (w .23) (w .24))
-    (λ w. ran-as (stop-made (c .before .steps .inv .2) (w .0 .taken) (w .1 .ensures) (w .3 .ensures) (w .5 .ensures) (w .6 .ensures .0) (effect-done (c .before .steps .inv .2) (w .1 .result .step) (w .3 .ensures) (w .5 .ensures) (w .6 .ensures .0) (⊎-elim (λ u. inl (u .0 .taken, u .4 ∙ u .3 .ensures)) (λ u. inr (u .0 .left, u .1)) (w .9 .came)) (w .11 .ensures)) (w .13 .given .1) (w .16 .ensures)) (w .19) (w .20) (w .21) (w .22 ∙ c .before .steps .inv .1)))
-    (c .steps-test .came)
+steps-again c = (c .before .before .before .before .before .before .before .before .before .before .before .before .before .before .before .before .before .before .before .before .before .steps .inv .0, c .before .before .before .before .before .before .before .before .before .before .before .before .before .before .before .before .before .before .before .before .before .steps .inv .1, turn (c .before .before .before .before .before .before .before .before .before .before .before .before .before .before .before .before .before .before .before .before .before .steps .inv .2) (c .before .before .before .before .before .before .before .before .before .before .before .before .before .before .before .before .before .before .before .before .steps-test .taken) (c .before .before .before .before .before .before .before .before .before .before .before .before .before .before .before .before .before .before .before .step-at .ensures) (told (c .before .before .before .before .before .before .before .before .before .before)) (c .before .before .before .before .before .before .before .before .if1 .left) refl (written (c .before .before .before .before .before .before)) (c .before .before .before .put-accepted .ensures) (c .place-of .ensures))
 
 put-last-requires : tie.Need-put-last-requires Inv-steps μ-steps
-put-last-requires c κs = last-fits (ran (c .before)) (c .before .before .before .before .before .before .before .before .before .args .shown) (c .before .before .before .before .before .before .before .before .before .pre .2)
+put-last-requires c κs = last-fits (ran (c .before)) (c .before .before .before .before .before .before .before .before .args .shown) (c .before .before .before .before .before .before .before .before .pre .2)
 
 put-state-requires : tie.Need-put-state-requires Inv-steps μ-steps
-put-state-requires c κs = (state-fits (ran (c .before .before .before .before .before .before)) (c .before .before .before .before .put-last .ensures) (c .before .before .before .before .before .before .before .before .before .before .before .before .before .before .args .shown) (c .before .if4 .taken) (c .before .before .before .before .before .before .before .before .before .before .before .before .before .before .pre .2), (_, recorded (ran (c .before .before .before .before .before .before))))
+put-state-requires c κs = (state-fits (ran (c .before .before .before .before .before .before)) (c .before .before .before .before .put-last .ensures) (c .before .before .before .before .before .before .before .before .before .before .before .before .before .args .shown) (c .before .if3 .taken) (c .before .before .before .before .before .before .before .before .before .before .before .before .before .pre .2), (_, recorded (ran (c .before .before .before .before .before .before))))
 
 same-length : tie.Need-same-length Inv-steps μ-steps
-same-length c = ⊎-elim (λ w. ap length (w .5) ∙ same-long (w .2 .ensures _ (recorded (ran (c .before .before .before .before .before .before))) .wrote) ∙ same-long (c .before .before .before .before .put-last .ensures) ∙ same-long ((ran (c .before .before .before .before .before .before)) .wrote)) (λ w. ap length (w .1) ∙ same-long (c .before .before .before .before .put-last .ensures) ∙ same-long ((ran (c .before .before .before .before .before .before)) .wrote)) (c .before .if4 .came)
+same-length c = ⊎-elim (λ w. ap length (w .5) ∙ same-long (w .2 .ensures _ (recorded (ran (c .before .before .before .before .before .before))) .wrote) ∙ same-long (c .before .before .before .before .put-last .ensures) ∙ same-long (ran (c .before .before .before .before .before .before) .wrote))
+    (λ w. ap length (w .1) ∙ same-long (c .before .before .before .before .put-last .ensures) ∙ same-long (ran (c .before .before .before .before .before .before) .wrote)) (c .before .if3 .came)
 
 returns : tie.Need-returns Inv-steps μ-steps
-returns c = ⊎-elim (λ w. leaves-as (now (c .before .before .before .before .before .before .before .before .before .before .before .before .before .before .args .out)) (w .5) (w .6) (shown (ran (c .before .before .before .before .before .before)) (c .before .before .before .before .put-last .ensures) (c .before .before .before .before .before .before .before .before .before .before .before .before .before .before .args .shown) (w .0 .taken) (c .before .before .before .before .before .before .before .before .before .before .before .before .before .before .pre .2) (w .2 .ensures))) (λ w. leaves-as (now (c .before .before .before .before .before .before .before .before .before .before .before .before .before .before .args .out)) (w .1) (w .2) (listed (ran (c .before .before .before .before .before .before)) (c .before .before .before .before .put-last .ensures) (c .before .before .before .before .before .before .before .before .before .before .before .before .before .before .args .shown) (w .0 .left) (c .before .before .before .before .before .before .before .before .before .before .before .before .before .before .pre .2))) (c .before .if4 .came)
+returns c = ⊎-elim (λ w. leaves-as (now (c .before .before .before .before .before .before .before .before .before .before .before .before .before .args .out)) (w .5) (w .6) (shown (ran (c .before .before .before .before .before .before)) (c .before .before .before .before .put-last .ensures) (c .before .before .before .before .before .before .before .before .before .before .before .before .before .args .shown) (w .0 .taken) (c .before .before .before .before .before .before .before .before .before .before .before .before .before .pre .2) (w .2 .ensures)))
+    (λ w. leaves-as (now (c .before .before .before .before .before .before .before .before .before .before .before .before .before .args .out)) (w .1) (w .2) (listed (ran (c .before .before .before .before .before .before)) (c .before .before .before .before .put-last .ensures) (c .before .before .before .before .before .before .before .before .before .before .before .before .before .args .shown) (w .0 .left) (c .before .before .before .before .before .before .before .before .before .before .before .before .before .pre .2))) (c .before .if3 .came)
 
 pub run-steps-spec : {M : Type 1} → statement M
 run-steps-spec =
@@ -220,43 +243,31 @@ run-steps-spec =
     cast-n
     new-run-requires
     read-clauses-requires
-    empty-trail-requires
     steps-holds
     step-at-requires
     last-slot-requires
     mul-last
     element-copy-out-last
-    looked-at-requires
+    number-looked-requires
     slot-of-requires
-    mul-clause
-    array-copy-out-clause
-    is-free-requires
-    effect-requires
-    enum-told
-    step-requires
+    mul-held
+    array-copy-out-held
+    looked-at-requires
+    propagate-requires
+    decide-requires
+    conflict-requires
+    resolve-requires
+    factorize-requires
+    skip-requires
+    backtrack-requires
+    grow-requires
+    unknown-requires
     add-put-refused
     put-refused-requires
-    cast-next
-    cast-next-2
-    add-next
+    cast-learned
+    sub-table
     mul-table
     array-set-from-table
-    enum-known-change
-    add-put-refused-2
-    put-refused-requires-2
-    enum-told-2
-    cast-next-3
-    add-run
-    add-run-2
-    mul-entry
-    element-set-from-entry
-    enum-known-change-2
-    no-entry-requires
-    cast-run
-    mul-none
-    element-set-from-none
-    enum-told-3
-    enum-known-change-3
     add-put-accepted
     put-accepted-requires
     place-of-requires

@@ -1,21 +1,34 @@
+use borrow.Author.Tests.{le-leb, lt-leb, not-false, not-true}
 use mathlib.Core.Path.{sym, _∙_}
-use Rattle.rules.proofs.Parts.{off, on}
+use native.Mathlib.Omega.{arith}
 use borrow.Author.Needs.{needs}
 use Rattle.rules.proofs.instance_named.Statement.{statement}
 use Rattle.rules.proofs.instance_named.Tie as tie
+use Rattle.rules.proofs.instance_named.Reads as reads
+use Rattle.rules.proofs.instance_named.Lts as lts
+use Rattle.instances.proofs.instance_fits.Reads as instance-fits-reads
+use Rattle.rules.proofs.clause_exists.Reads as clause-exists-reads
 
+-- src/lib.rt:145:9
+returns : tie.Need-returns
+returns c = simp (lt-leb _ 12 (c .if1 .taken))
+
+-- src/lib.rt:147:9
 clause-exists-requires : tie.Need-clause-exists-requires
 clause-exists-requires c κs = search needs
 
-returns : tie.Need-returns
-returns c = simp (sym (c .before .clause-exists .ensures) ∙ off _ (c .if1 .taken))
+-- src/lib.rt:148:9
+returns-2 : tie.Need-returns-2
+returns-2 c = simp (le-leb _ 12 (c .before .before .if1 .left), sym (c .before .clause-exists .ensures) ∙ not-true _ (c .if2 .taken))
 
+-- src/lib.rt:150:5
 instance-fits-requires : tie.Need-instance-fits-requires
 instance-fits-requires c κs = search needs
 
-returns-2 : tie.Need-returns-2
-returns-2 c = simp (c .instance-fits .ensures, sym (c .before .before .clause-exists .ensures) ∙ on _ (c .before .if1 .left))
+-- src/lib.rt:132:1
+returns-3 : tie.Need-returns-3
+returns-3 c = simp (le-leb _ 12 (c .before .before .before .if1 .left), sym (c .before .before .clause-exists .ensures) ∙ not-false _ (c .before .if2 .left)) (c .instance-fits .ensures)
 
 pub instance-named-spec : {M : Type 1} → statement M
 instance-named-spec =
-    tie.close (tie.spec clause-exists-requires returns instance-fits-requires returns-2)
+    tie.close (tie.spec returns clause-exists-requires returns-2 instance-fits-requires returns-3)

@@ -1,34 +1,38 @@
-use mathlib.Core.Path.{sym, _∙_}
-use Rattle.rules.proofs.Parts.{off, on}
+use borrow.Author.Tests.{not-false, not-true}
+use mathlib.Core.Path.{sym, ap, _∙_}
+use mathlib.Core.Bool.{Bool, _&&_}
+use Rattle.rules.proofs.Asking.{no-literal}
+use Prim.Native.Nat.{_+_}
+use lib.Dec.{leb}
+use lib.ListN.{take}
+use Rattle.basis.specs.Limits.{mostVariables}
+use Rattle.calculus.specs.Checks.{between}
+use Rattle.calculus.specs.Rules.{instanceFits}
+use Rattle.clauses.specs.Records.{clauseOf}
 use borrow.Author.Needs.{needs}
 use Rattle.rules.proofs.literal_named.Statement.{statement}
 use Rattle.rules.proofs.literal_named.Tie as tie
+use Rattle.rules.proofs.literal_named.Reads as reads
+use Rattle.rules.proofs.literal_named.Lts as lts
+use Rattle.instances.proofs.literal_exists.Reads as literal-exists-reads
+use Rattle.rules.proofs.instance_named.Reads as instance-named-reads
 
-clause-exists-requires : tie.Need-clause-exists-requires
-clause-exists-requires c κs = search needs
-
-returns : tie.Need-returns
-returns c = simp (sym (c .before .clause-exists .ensures) ∙ off _ (c .if1 .taken))
-
+-- src/lib.rt:167:9
 literal-exists-requires : tie.Need-literal-exists-requires
 literal-exists-requires c κs = search needs
 
+-- src/lib.rt:168:9
+returns : tie.Need-returns
+returns c = no-literal (leb (c .before .before .args .count) mostVariables) (between 1 (c .before .before .args .input + c .before .before .args .learned) (c .before .before .args .c)) (instanceFits (c .before .before .args .constants) (clauseOf (c .before .before .args .clause)) (take (c .before .before .args .count) (c .before .before .args .instance))) (sym (c .before .literal-exists .ensures) ∙ not-true _ (c .if1 .taken))
+
+-- src/lib.rt:170:5
+instance-named-requires : tie.Need-instance-named-requires
+instance-named-requires c κs = search needs
+
+-- src/lib.rt:154:1
 returns-2 : tie.Need-returns-2
-returns-2 c = simp (sym (c .before .before .before .clause-exists .ensures) ∙ on _ (c .before .before .if1 .left), sym (c .before .literal-exists .ensures) ∙ off _ (c .if2 .taken))
-
-instance-fits-requires : tie.Need-instance-fits-requires
-instance-fits-requires c κs = search needs
-
-returns-3 : tie.Need-returns-3
-returns-3 c = simp (c .instance-fits .ensures, sym (c .before .before .before .before .clause-exists .ensures) ∙ on _ (c .before .before .before .if1 .left), sym (c .before .before .literal-exists .ensures) ∙ on _ (c .before .if2 .left))
+returns-2 c = simp (sym (c .before .before .literal-exists .ensures) ∙ not-false _ (c .before .if1 .left)) (c .instance-named .ensures)
 
 pub literal-named-spec : {M : Type 1} → statement M
 literal-named-spec =
-    tie.close
-    (tie.spec
-    clause-exists-requires
-    returns
-    literal-exists-requires
-    returns-2
-    instance-fits-requires
-    returns-3)
+    tie.close (tie.spec literal-exists-requires returns instance-named-requires returns-2)

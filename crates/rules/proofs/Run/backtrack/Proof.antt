@@ -1,126 +1,342 @@
-use native.Mathlib.Omega.{arith}
-use mathlib.Core.Path.{sym, _∙_}
-use Rattle.trail.proofs.Stored.{stored-held}
-use Rattle.rules.proofs.Parts.{off, on}
-use Rattle.rules.proofs.Runs.{kept-small}
-use Rattle.rules.proofs.Backtracking.{backtrack-no-conflict, backtrack-no-such, backtrack-again, backtrack-not-above, backtrack-impossible, backtrack-long, backtrack-no-room, backtrack-accepted}
+use Rattle.basis.specs.Limits.{mostEntries, mostLearned}
 use borrow.Author.Needs.{needs}
+use native.Mathlib.Omega.{arith}
+use mathlib.Core.Path.{_≡_, ap, _∙_}
+use Prim.Native.Nat.{_+_, _-_, _<_}
+use Rattle.rules.proofs.Growing.{backtracked, Cuts, Grows, cut-all, cut-run, cuts-start, cuts-turn, few-new, grows-start, grows-turn, grown-all, grown-run}
+use Rattle.rules.proofs.Runs.{kept-small}
+use Rattle.rules.proofs.Backtracking.{backtrack-refused, backtrack-fits, backtrack-told, kept-below}
+use Rattle.rules.proofs.Told.{told-as}
+use Rattle.rules.specs.declared.Run.{Run}
+use Rattle.testing.proofs.Atoms.{in-room}
+use Rattle.trail.proofs.Stored.{stored-pushed}
 use Rattle.rules.proofs.Run.backtrack.Statement.{statement}
 use Rattle.rules.proofs.Run.backtrack.Tie as tie
+use Rattle.rules.proofs.Run.backtrack.Reads as reads
+use Rattle.rules.proofs.Run.backtrack.Lts as lts
+use Rattle.clauses.proofs.no_instanced.Reads as no-instanced-reads
+use Rattle.instances.proofs.again.Reads as again-reads
+use Rattle.instances.proofs.conflict_instance.Reads as conflict-instance-reads
+use Rattle.instances.proofs.literal_exists.Reads as literal-exists-reads
+use Rattle.rules.proofs.refusal.Reads as refusal-reads
+use Rattle.rules.proofs.refused.Reads as refused-reads
+use Rattle.testing.proofs.gathered.Reads as gathered-reads
+use Rattle.testing.proofs.new_atoms.Reads as new-atoms-reads
+use Rattle.testing.proofs.possible.Reads as possible-reads
+use Rattle.trail.proofs.background_entry.Reads as background-entry-reads
+use Rattle.trail.proofs.blank_entry.Reads as blank-entry-reads
+use Rattle.trail.proofs.levels.Reads as levels-reads
+use Rattle.trail.proofs.propagated_entry.Reads as propagated-entry-reads
 
-refused-requires : tie.Need-refused-requires
-refused-requires c κs = search needs
+abbrev Inv-loop : tie.InvT-loop
+Inv-loop l self₀ c instance at fresh m kept number own g blank k₀ self k = Cuts self₀ self kept k
 
-returns : tie.Need-returns
-returns c = rw (c .refused .ensures) (λ s R. backtrack-no-conflict R _ (off _ (c .before .if1 .taken)))
+abbrev μ-loop : tie.MeasureT-loop
+μ-loop l self₀ c instance at fresh m kept number own g blank k₀ self k = k
 
-literal-exists-requires : tie.Need-literal-exists-requires
+abbrev Inv-loop2 : tie.InvT-loop2
+Inv-loop2 l self₀ at fresh m kept number own k j₀ self j = Grows self₀ self fresh kept j
+
+abbrev μ-loop2 : tie.MeasureT-loop2
+μ-loop2 l self₀ at fresh m kept number own k j₀ self j = m - j
+
+-- What was asked, and that there is room where nothing is refused
+abbrev Asked : Type 0
+Asked = lts.After-refusal7 (levels-reads.Asked, levels-reads.Learnt, gathered-reads.Asked, gathered-reads.Learnt, new-atoms-reads.Asked, new-atoms-reads.Learnt, literal-exists-reads.Asked, literal-exists-reads.Learnt, again-reads.Asked, again-reads.Learnt, possible-reads.Asked, possible-reads.Learnt, refusal-reads.Asked, refusal-reads.Learnt, refused-reads.Asked, refused-reads.Learnt, conflict-instance-reads.Asked, conflict-instance-reads.Learnt, blank-entry-reads.Asked, blank-entry-reads.Learnt, propagated-entry-reads.Asked, propagated-entry-reads.Learnt, background-entry-reads.Asked, background-entry-reads.Learnt, no-instanced-reads.Asked, no-instanced-reads.Learnt) reads.Pre reads.Post Inv-loop μ-loop Inv-loop2 μ-loop2
+
+room : (c : Asked) → c .refusal7 .result ≡ 0 → (c .before .before .before .before .before .before .before .before .before .before .before .before .before .before .levels .result .kept + c .before .before .before .before .before .before .before .before .before .before .before .before .new-atoms .result .count < mostEntries) × (c .before .before .before .before .before .before .before .before .before .before .before .before .before .before .before .before .before .before .before .args .t1 .learned < mostLearned)
+room c z = backtrack-fits (c .before .before .before .before .before .before .before .before .before .before .before .before .before .before .before .before .before .before .before .pre .1) _ _ _ (c .before .before .before .before .before .before .before .before .before .before .literal-exists .ensures) (c .before .before .before .before .before .before .before .before .before .again .ensures) _ (c .before .before .before .before .before .before .before .before .before .before .before .before .before .before .levels .ensures) _ (c .before .before .before .before .before .before .before .before .before .before .before .before .before .gathered .ensures) (c .before .before .before .before .before .before .before .possible .result) (c .before .before .before .before .before .before .before .possible .ensures) _ (c .before .before .before .before .before .before .before .before .before .before .before .before .new-atoms .ensures) (c .before .before .before .before .before .before .refusal .ensures) (c .before .before .before .before .before .refusal2 .ensures) (c .before .before .before .before .refusal3 .ensures) (c .before .before .before .refusal4 .ensures) (c .before .before .refusal5 .ensures) (c .before .refusal6 .ensures) (c .refusal7 .ensures) z
+
+-- src/lib.rt:643:13
+levels-requires : tie.Need-levels-requires Inv-loop μ-loop Inv-loop2 μ-loop2
+levels-requires c κs = kept-small (c .before .before .before .before .pre) .few-entries
+
+-- src/lib.rt:644:13
+gathered-requires : tie.Need-gathered-requires Inv-loop μ-loop Inv-loop2 μ-loop2
+gathered-requires c κs = omega (arith, kept-small (c .before .before .before .before .before .pre) .few-entries, kept-below (c .before .before .before .before .before .args .t1) (c .before .before .before .before .before .args .l) (c .levels .ensures))
+
+-- src/lib.rt:645:21
+new-atoms-requires : tie.Need-new-atoms-requires Inv-loop μ-loop Inv-loop2 μ-loop2
+new-atoms-requires c κs = in-room (c .gathered .ensures)
+
+-- src/lib.rt:646:17
+cast-m : tie.Need-cast-m Inv-loop μ-loop Inv-loop2 μ-loop2
+cast-m c = omega (arith, few-new (c .before .gathered .ensures) (c .new-atoms .ensures))
+
+-- src/lib.rt:647:20
+cast-kept : tie.Need-cast-kept Inv-loop μ-loop Inv-loop2 μ-loop2
+cast-kept c = omega (arith, kept-small (c .before .before .before .before .before .before .before .before .pre) .few-entries, kept-below (c .before .before .before .before .before .before .before .before .args .t1) (c .before .before .before .before .before .before .before .before .args .l) (c .before .before .before .levels .ensures))
+
+-- src/lib.rt:652:17
+literal-exists-requires : tie.Need-literal-exists-requires Inv-loop μ-loop Inv-loop2 μ-loop2
 literal-exists-requires c κs = search needs
 
-refused-requires-2 : tie.Need-refused-requires-2
-refused-requires-2 c κs = search needs
-
-returns-2 : tie.Need-returns-2
-returns-2 c = rw (c .refused2 .ensures) (λ s R. backtrack-no-such R _ (on _ (c .before .before .before .before .before .if1 .left)) (sym (c .before .before .literal-exists .ensures) ∙ off _ (c .before .if2 .taken)))
-
-again-requires : tie.Need-again-requires
+-- src/lib.rt:655:22
+again-requires : tie.Need-again-requires Inv-loop μ-loop Inv-loop2 μ-loop2
 again-requires c κs = search needs
 
-refused-requires-3 : tie.Need-refused-requires-3
-refused-requires-3 c κs = search needs
+-- src/lib.rt:661:29
+possible-requires : tie.Need-possible-requires Inv-loop μ-loop Inv-loop2 μ-loop2
+possible-requires c κs = in-room (c .before .before .before .before .before .gathered .ensures) .few
 
-returns-3 : tie.Need-returns-3
-returns-3 c = rw (c .refused3 .ensures) (λ s R. backtrack-again R _ (on _ (c .before .before .before .before .before .before .before .if1 .left)) (sym (c .before .before .before .before .literal-exists .ensures) ∙ on _ (c .before .before .before .if2 .left)) (sym (c .before .before .again .ensures) ∙ c .before .if3 .taken))
+-- src/lib.rt:664:33
+add-refusal : tie.Need-add-refusal Inv-loop μ-loop Inv-loop2 μ-loop2
+add-refusal c = omega (arith, kept-small (c .before .before .before .before .before .before .before .before .before .before .before .before .pre) .few-entries, kept-below (c .before .before .before .before .before .before .before .before .before .before .before .before .args .t1) (c .before .before .before .before .before .before .before .before .before .before .before .before .args .l) (c .before .before .before .before .before .before .before .levels .ensures), few-new (c .before .before .before .before .before .before .gathered .ensures) (c .before .before .before .before .before .new-atoms .ensures))
 
-back-level-requires : tie.Need-back-level-requires
-back-level-requires c κs = kept-small (c .before .before .before .before .before .before .before .before .before .pre) .few-entries
+-- src/lib.rt:666:42
+cast-refusal : tie.Need-cast-refusal Inv-loop μ-loop Inv-loop2 μ-loop2
+cast-refusal c = omega (arith, kept-small (c .before .before .before .before .before .before .before .before .before .before .before .before .pre) .few-learned)
 
-conflict-instance-requires : tie.Need-conflict-instance-requires
+-- src/lib.rt:666:33
+refusal-requires : tie.Need-refusal-requires Inv-loop μ-loop Inv-loop2 μ-loop2
+refusal-requires c κs = search needs
+
+-- src/lib.rt:663:29
+refusal-requires-2 : tie.Need-refusal-requires-2 Inv-loop μ-loop Inv-loop2 μ-loop2
+refusal-requires-2 c κs = search needs
+
+-- src/lib.rt:660:25
+refusal-requires-3 : tie.Need-refusal-requires-3 Inv-loop μ-loop Inv-loop2 μ-loop2
+refusal-requires-3 c κs = search needs
+
+-- src/lib.rt:657:21
+refusal-requires-4 : tie.Need-refusal-requires-4 Inv-loop μ-loop Inv-loop2 μ-loop2
+refusal-requires-4 c κs = search needs
+
+-- src/lib.rt:654:17
+refusal-requires-5 : tie.Need-refusal-requires-5 Inv-loop μ-loop Inv-loop2 μ-loop2
+refusal-requires-5 c κs = search needs
+
+-- src/lib.rt:651:13
+refusal-requires-6 : tie.Need-refusal-requires-6 Inv-loop μ-loop Inv-loop2 μ-loop2
+refusal-requires-6 c κs = search needs
+
+-- src/lib.rt:648:13
+refusal-requires-7 : tie.Need-refusal-requires-7 Inv-loop μ-loop Inv-loop2 μ-loop2
+refusal-requires-7 c κs = search needs
+
+-- src/lib.rt:674:13
+refused-requires : tie.Need-refused-requires Inv-loop μ-loop Inv-loop2 μ-loop2
+refused-requires c κs = search needs
+
+-- src/lib.rt:674:13
+returns : tie.Need-returns Inv-loop μ-loop Inv-loop2 μ-loop2
+returns c =
+    let at-if1 = c .before in
+    let at-refusal7 = at-if1 .before in
+    let at-refusal6 = at-refusal7 .before in
+    let at-refusal5 = at-refusal6 .before in
+    let at-refusal4 = at-refusal5 .before in
+    let at-refusal3 = at-refusal4 .before in
+    let at-refusal2 = at-refusal3 .before in
+    let at-refusal = at-refusal2 .before in
+    let at-possible = at-refusal .before in
+    let at-again = at-possible .before .before in
+    let at-literal-exists = at-again .before in
+    let at-new-atoms = at-literal-exists .before .before in
+    let at-gathered = at-new-atoms .before in
+    let at-levels = at-gathered .before in
+    rw (c .refused .ensures) (λ s R. backtrack-refused R _ _ _ (at-literal-exists .literal-exists .ensures) (at-again .again .ensures) _ (at-levels .levels .ensures) _ (at-gathered .gathered .ensures) (at-possible .possible .result) (at-possible .possible .ensures) _ (at-new-atoms .new-atoms .ensures)
+    (at-refusal .refusal .ensures) (at-refusal2 .refusal2 .ensures) (at-refusal3 .refusal3 .ensures) (at-refusal4 .refusal4 .ensures) (at-refusal5 .refusal5 .ensures) (at-refusal6 .refusal6 .ensures) (at-refusal7 .refusal7 .ensures) (at-if1 .if1 .taken))
+
+-- src/lib.rt:676:19
+add-own : tie.Need-add-own Inv-loop μ-loop Inv-loop2 μ-loop2
+add-own c = omega (arith, kept-small (c .before .before .before .before .before .before .before .before .before .before .before .before .before .before .before .before .before .before .before .before .pre) .few-input, kept-small (c .before .before .before .before .before .before .before .before .before .before .before .before .before .before .before .before .before .before .before .before .pre) .few-learned)
+
+-- src/lib.rt:676:19
+add-own-2 : tie.Need-add-own-2 Inv-loop μ-loop Inv-loop2 μ-loop2
+add-own-2 c = omega (arith, kept-small (c .before .before .before .before .before .before .before .before .before .before .before .before .before .before .before .before .before .before .before .before .pre) .few-input, kept-small (c .before .before .before .before .before .before .before .before .before .before .before .before .before .before .before .before .before .before .before .before .pre) .few-learned)
+
+-- src/lib.rt:677:13
+conflict-instance-requires : tie.Need-conflict-instance-requires Inv-loop μ-loop Inv-loop2 μ-loop2
 conflict-instance-requires c κs = search needs
 
-level-of-requires : tie.Need-level-of-requires
-level-of-requires c κs = kept-small (c .before .before .before .before .before .before .before .before .before .before .before .pre) .few-entries
+-- src/lib.rt:678:13
+blank-entry-requires : tie.Need-blank-entry-requires Inv-loop μ-loop Inv-loop2 μ-loop2
+blank-entry-requires c κs = search needs
 
-refused-requires-4 : tie.Need-refused-requires-4
-refused-requires-4 c κs = search needs
+-- src/lib.rt:679:21
+cast-k : tie.Need-cast-k Inv-loop μ-loop Inv-loop2 μ-loop2
+cast-k c = omega (arith, kept-small (c .before .before .before .before .before .before .before .before .before .before .before .before .before .before .before .before .before .before .before .before .before .before .pre) .few-entries)
 
-returns-4 : tie.Need-returns-4
-returns-4 c = rw (c .refused4 .ensures) (λ s R. backtrack-not-above R _ (on _ (c .before .before .before .before .before .before .before .before .before .before .before .before .if1 .left)) (sym (c .before .before .before .before .before .before .before .before .before .literal-exists .ensures) ∙ on _ (c .before .before .before .before .before .before .before .before .if2 .left)) (sym (c .before .before .before .before .before .before .before .again .ensures) ∙ c .before .before .before .before .before .before .if3 .left) _ (c .before .before .before .before .back-level .ensures) _ (c .before .before .before .conflict-instance .ensures) _ (c .before .before .level-of .ensures) (c .before .if4 .taken))
+-- src/lib.rt:680:9
+loop-holds : tie.Need-loop-holds Inv-loop μ-loop Inv-loop2 μ-loop2
+loop-holds c = cuts-start _ _ (kept-below (c .before .before .before .before .before .before .before .before .before .before .before .before .before .before .before .before .before .before .before .before .before .before .args .t1) (c .before .before .before .before .before .before .before .before .before .before .before .before .before .before .before .before .before .before .before .before .before .before .args .l) (c .before .before .before .before .before .before .before .before .before .before .before .before .before .before .before .before .before .levels .ensures)) (kept-small (c .before .before .before .before .before .before .before .before .before .before .before .before .before .before .before .before .before .before .before .before .before .before .pre) .trail-held)
 
-cut-requires : tie.Need-cut-requires
-cut-requires c κs = kept-small (c .before .before .before .before .before .before .before .before .before .before .before .before .before .pre) .trail-held
+-- src/lib.rt:681:13
+sub-k : tie.Need-sub-k Inv-loop μ-loop Inv-loop2 μ-loop2
+sub-k c = omega (arith, c .loop-test .taken)
 
-possible-requires : tie.Need-possible-requires
-possible-requires c κs = omega (arith, c .before .before .cut .ensures .few)
+-- src/lib.rt:682:13
+mul-blank : tie.Need-mul-blank Inv-loop μ-loop Inv-loop2 μ-loop2
+mul-blank c = search needs
 
-refused-requires-5 : tie.Need-refused-requires-5
-refused-requires-5 c κs = search needs
+-- src/lib.rt:682:13
+element-set-from-blank : tie.Need-element-set-from-blank Inv-loop μ-loop Inv-loop2 μ-loop2
+element-set-from-blank c = omega (arith, c .before .loop .inv .stores .few, c .loop-test .taken)
 
-returns-5 : tie.Need-returns-5
-returns-5 c = rw (c .refused5 .ensures) (λ s R. backtrack-impossible R _ (on _ (c .before .before .before .before .before .before .before .before .before .before .before .before .before .before .before .before .before .if1 .left)) (sym (c .before .before .before .before .before .before .before .before .before .before .before .before .before .before .literal-exists .ensures) ∙ on _ (c .before .before .before .before .before .before .before .before .before .before .before .before .before .if2 .left)) (sym (c .before .before .before .before .before .before .before .before .before .before .before .before .again .ensures) ∙ c .before .before .before .before .before .before .before .before .before .before .before .if3 .left) _ (c .before .before .before .before .before .before .before .before .before .back-level .ensures) _ (c .before .before .before .before .before .before .before .before .conflict-instance .ensures) _ (c .before .before .before .before .before .before .before .level-of .ensures) (c .before .before .before .before .before .before .if4 .left) (c .before .before .before .before .before .cut .result) (c .before .before .before .before .before .cut .ensures) (c .before .before .possible .result) (c .before .before .possible .ensures) (off _ (c .before .if5 .taken)))
+-- src/lib.rt:680:9
+loop-less : tie.Need-loop-less Inv-loop μ-loop Inv-loop2 μ-loop2
+loop-less c = search needs
 
-add-number : tie.Need-add-number
-add-number c = let h = kept-small (c .before .before .before .before .before .before .before .before .before .before .before .before .before .before .before .before .before .before .before .pre) in omega (arith, h .few-input, h .few-learned)
+-- src/lib.rt:680:9
+loop-again : tie.Need-loop-again Inv-loop μ-loop Inv-loop2 μ-loop2
+loop-again c = cuts-turn (c .before .loop .inv) (c .loop-test .taken) (omega (arith, c .loop-test .taken)) (c .before .before .blank-entry .ensures)
 
-add-number-2 : tie.Need-add-number-2
-add-number-2 c = let h = kept-small (c .before .before .before .before .before .before .before .before .before .before .before .before .before .before .before .before .before .before .before .pre) in omega (arith, h .few-input, h .few-learned)
+-- src/lib.rt:684:28
+propagated-entry-requires : tie.Need-propagated-entry-requires Inv-loop μ-loop Inv-loop2 μ-loop2
+propagated-entry-requires c κs = search needs
 
-append-propagated-requires : tie.Need-append-propagated-requires
-append-propagated-requires c κs = stored-held (c .before .before .before .before .before .cut .ensures)
+-- src/lib.rt:684:9
+mul-t38 : tie.Need-mul-t38 Inv-loop μ-loop Inv-loop2 μ-loop2
+mul-t38 c = omega (arith, kept-small (c .before .before .before .before .before .before .before .before .before .before .before .before .before .before .before .before .before .before .before .before .before .before .before .before .before .pre) .few-entries, kept-below (c .before .before .before .before .before .before .before .before .before .before .before .before .before .before .before .before .before .before .before .before .before .before .before .before .before .args .t1) (c .before .before .before .before .before .before .before .before .before .before .before .before .before .before .before .before .before .before .before .before .before .before .before .before .before .args .l) (c .before .before .before .before .before .before .before .before .before .before .before .before .before .before .before .before .before .before .before .before .levels .ensures))
 
-refused-requires-6 : tie.Need-refused-requires-6
-refused-requires-6 c κs = search needs
+-- src/lib.rt:684:9
+element-set-from-self : tie.Need-element-set-from-self Inv-loop μ-loop Inv-loop2 μ-loop2
+element-set-from-self c = omega (arith, room (c .before .before .before .before .before .before) (c .before .before .before .before .before .if1 .left) .0)
 
-returns-6 : tie.Need-returns-6
-returns-6 c = rw (c .refused6 .ensures) (λ s R. backtrack-long R _ (on _ (c .before .before .before .before .before .before .before .before .before .before .before .before .before .before .before .before .before .before .before .before .before .if1 .left)) (sym (c .before .before .before .before .before .before .before .before .before .before .before .before .before .before .before .before .before .before .literal-exists .ensures) ∙ on _ (c .before .before .before .before .before .before .before .before .before .before .before .before .before .before .before .before .before .if2 .left)) (sym (c .before .before .before .before .before .before .before .before .before .before .before .before .before .before .before .before .again .ensures) ∙ c .before .before .before .before .before .before .before .before .before .before .before .before .before .before .before .if3 .left) _ (c .before .before .before .before .before .before .before .before .before .before .before .before .before .back-level .ensures) _ (c .before .before .before .before .before .before .before .before .before .before .before .before .conflict-instance .ensures) _ (c .before .before .before .before .before .before .before .before .before .before .before .level-of .ensures) (c .before .before .before .before .before .before .before .before .before .before .if4 .left) (c .before .before .before .before .before .before .before .before .before .cut .result) (c .before .before .before .before .before .before .before .before .before .cut .ensures) (c .before .before .before .before .before .before .possible .result) (c .before .before .before .before .before .before .possible .ensures) (on _ (c .before .before .before .before .before .if5 .left)) (c .before .before .before .append-propagated .result) (c .before .before .before .append-propagated .ensures) (off _ (c .before .if6 .taken)))
+-- src/lib.rt:686:9
+loop2-holds : tie.Need-loop2-holds Inv-loop μ-loop Inv-loop2 μ-loop2
+loop2-holds c = grows-start _ _ _
 
-cast-if7 : tie.Need-cast-if7
-cast-if7 c = search needs
+-- src/lib.rt:687:21
+mul-a : tie.Need-mul-a Inv-loop μ-loop Inv-loop2 μ-loop2
+mul-a c = omega (arith, few-new (c .before .before .before .before .before .before .before .before .before .before .before .before .before .before .before .before .before .before .before .before .before .gathered .ensures) (c .before .before .before .before .before .before .before .before .before .before .before .before .before .before .before .before .before .before .before .before .new-atoms .ensures), c .loop2-test .taken)
 
-refused-requires-7 : tie.Need-refused-requires-7
-refused-requires-7 c κs = search needs
+-- src/lib.rt:687:21
+element-copy-out-a : tie.Need-element-copy-out-a Inv-loop μ-loop Inv-loop2 μ-loop2
+element-copy-out-a c = omega (arith, few-new (c .before .before .before .before .before .before .before .before .before .before .before .before .before .before .before .before .before .before .before .before .before .gathered .ensures) (c .before .before .before .before .before .before .before .before .before .before .before .before .before .before .before .before .before .before .before .before .new-atoms .ensures), c .loop2-test .taken)
 
-returns-7 : tie.Need-returns-7
-returns-7 c = rw (c .refused7 .ensures) (λ s R. backtrack-no-room R _ (on _ (c .before .before .before .before .before .before .before .before .before .before .before .before .before .before .before .before .before .before .before .before .before .before .before .if1 .left)) (sym (c .before .before .before .before .before .before .before .before .before .before .before .before .before .before .before .before .before .before .before .before .literal-exists .ensures) ∙ on _ (c .before .before .before .before .before .before .before .before .before .before .before .before .before .before .before .before .before .before .before .if2 .left)) (sym (c .before .before .before .before .before .before .before .before .before .before .before .before .before .before .before .before .before .before .again .ensures) ∙ c .before .before .before .before .before .before .before .before .before .before .before .before .before .before .before .before .before .if3 .left) _ (c .before .before .before .before .before .before .before .before .before .before .before .before .before .before .before .back-level .ensures) _ (c .before .before .before .before .before .before .before .before .before .before .before .before .before .before .conflict-instance .ensures) _ (c .before .before .before .before .before .before .before .before .before .before .before .before .before .level-of .ensures) (c .before .before .before .before .before .before .before .before .before .before .before .before .if4 .left) (c .before .before .before .before .before .before .before .before .before .before .before .cut .result) (c .before .before .before .before .before .before .before .before .before .before .before .cut .ensures) (c .before .before .before .before .before .before .before .before .possible .result) (c .before .before .before .before .before .before .before .before .possible .ensures) (on _ (c .before .before .before .before .before .before .before .if5 .left)) (c .before .before .before .before .before .append-propagated .result) (c .before .before .before .before .before .append-propagated .ensures) (on _ (c .before .before .before .if6 .left)) (c .before .if7 .taken))
+-- src/lib.rt:688:13
+add-j : tie.Need-add-j Inv-loop μ-loop Inv-loop2 μ-loop2
+add-j c = omega (arith, few-new (c .before .before .before .before .before .before .before .before .before .before .before .before .before .before .before .before .before .before .before .before .before .before .gathered .ensures) (c .before .before .before .before .before .before .before .before .before .before .before .before .before .before .before .before .before .before .before .before .before .new-atoms .ensures), c .before .loop2-test .taken)
 
-learning-requires : tie.Need-learning-requires
-learning-requires c κs = c .if7 .left
+-- src/lib.rt:689:36
+background-entry-requires : tie.Need-background-entry-requires Inv-loop μ-loop Inv-loop2 μ-loop2
+background-entry-requires c κs = search needs
 
-accepted-requires : tie.Need-accepted-requires
-accepted-requires c κs = search needs
+-- src/lib.rt:689:24
+add-t49 : tie.Need-add-t49 Inv-loop μ-loop Inv-loop2 μ-loop2
+add-t49 c = omega (arith, room (c .before .before .before .before .before .before .before .before .before .before) (c .before .before .before .before .before .before .before .before .before .if1 .left) .0, c .before .before .loop2-test .taken)
 
-returns-8 : tie.Need-returns-8
-returns-8 c = rw (c .accepted .ensures, c .before .learning .ensures) (λ s R. backtrack-accepted R _ (on _ (c .before .before .before .before .before .before .before .before .before .before .before .before .before .before .before .before .before .before .before .before .before .before .before .before .if1 .left)) (sym (c .before .before .before .before .before .before .before .before .before .before .before .before .before .before .before .before .before .before .before .before .before .literal-exists .ensures) ∙ on _ (c .before .before .before .before .before .before .before .before .before .before .before .before .before .before .before .before .before .before .before .before .if2 .left)) (sym (c .before .before .before .before .before .before .before .before .before .before .before .before .before .before .before .before .before .before .before .again .ensures) ∙ c .before .before .before .before .before .before .before .before .before .before .before .before .before .before .before .before .before .before .if3 .left) _ (c .before .before .before .before .before .before .before .before .before .before .before .before .before .before .before .before .back-level .ensures) _ (c .before .before .before .before .before .before .before .before .before .before .before .before .before .before .before .conflict-instance .ensures) _ (c .before .before .before .before .before .before .before .before .before .before .before .before .before .before .level-of .ensures) (c .before .before .before .before .before .before .before .before .before .before .before .before .before .if4 .left) (c .before .before .before .before .before .before .before .before .before .before .before .before .cut .result) (c .before .before .before .before .before .before .before .before .before .before .before .before .cut .ensures) (c .before .before .before .before .before .before .before .before .before .possible .result) (c .before .before .before .before .before .before .before .before .before .possible .ensures) (on _ (c .before .before .before .before .before .before .before .before .if5 .left)) (c .before .before .before .before .before .before .append-propagated .result) (c .before .before .before .before .before .before .append-propagated .ensures) (on _ (c .before .before .before .before .if6 .left)) (c .before .before .if7 .left))
+-- src/lib.rt:689:13
+mul-t54 : tie.Need-mul-t54 Inv-loop μ-loop Inv-loop2 μ-loop2
+mul-t54 c = omega (arith, room (c .before .before .before .before .before .before .before .before .before .before) (c .before .before .before .before .before .before .before .before .before .if1 .left) .0, c .before .before .loop2-test .taken)
+
+-- src/lib.rt:689:13
+element-set-from-self-2 : tie.Need-element-set-from-self-2 Inv-loop μ-loop Inv-loop2 μ-loop2
+element-set-from-self-2 c = omega (arith, room (c .before .before .before .before .before .before .before .before .before .before) (c .before .before .before .before .before .before .before .before .before .if1 .left) .0, c .before .before .loop2-test .taken)
+
+-- src/lib.rt:686:9
+loop2-less : tie.Need-loop2-less Inv-loop μ-loop Inv-loop2 μ-loop2
+loop2-less c = search needs
+
+-- src/lib.rt:686:9
+loop2-again : tie.Need-loop2-again Inv-loop μ-loop Inv-loop2 μ-loop2
+loop2-again c = grows-turn (c .before .before .before .loop2 .inv) (c .before .before .loop2-test .taken) (few-new (c .before .before .before .before .before .before .before .before .before .before .before .before .before .before .before .before .before .before .before .before .before .before .before .gathered .ensures) (c .before .before .before .before .before .before .before .before .before .before .before .before .before .before .before .before .before .before .before .before .before .before .new-atoms .ensures)) (room (c .before .before .before .before .before .before .before .before .before .before) (c .before .before .before .before .before .before .before .before .before .if1 .left) .0) (omega arith) (c .background-entry .ensures)
+
+-- src/lib.rt:691:13
+no-instanced-requires : tie.Need-no-instanced-requires Inv-loop μ-loop Inv-loop2 μ-loop2
+no-instanced-requires c κs = search needs
+
+-- src/lib.rt:692:24
+add-self : tie.Need-add-self Inv-loop μ-loop Inv-loop2 μ-loop2
+add-self c = omega (arith, room (c .before .before .before .before .before .before .before .before .before) (c .before .before .before .before .before .before .before .before .if1 .left) .0)
+
+-- src/lib.rt:692:24
+add-self-2 : tie.Need-add-self-2 Inv-loop μ-loop Inv-loop2 μ-loop2
+add-self-2 c = omega (arith, room (c .before .before .before .before .before .before .before .before .before) (c .before .before .before .before .before .before .before .before .if1 .left) .0)
+
+-- src/lib.rt:692:23
+cast-self : tie.Need-cast-self Inv-loop μ-loop Inv-loop2 μ-loop2
+cast-self c = omega (arith, room (c .before .before .before .before .before .before .before .before .before) (c .before .before .before .before .before .before .before .before .if1 .left) .0)
+
+-- src/lib.rt:694:9
+add-self-3 : tie.Need-add-self-3 Inv-loop μ-loop Inv-loop2 μ-loop2
+add-self-3 c = omega (arith, ap (λ (q : Run). q .learned) (c .before .before .loop2 .inv .rest), ap (λ (q : Run). q .learned) (c .before .before .before .before .before .loop .inv .rest), room (c .before .before .before .before .before .before .before .before .before) (c .before .before .before .before .before .before .before .before .if1 .left) .1)
+
+-- src/lib.rt:635:5
+returns-2 : tie.Need-returns-2 Inv-loop μ-loop Inv-loop2 μ-loop2
+returns-2 c =
+    let at-loop2-test = c .before in
+    let at-loop2 = at-loop2-test .before in
+    let at-propagated-entry = at-loop2 .before in
+    let at-loop-test = at-propagated-entry .before in
+    let at-loop = at-loop-test .before in
+    let at-conflict-instance = at-loop .before .before in
+    let at-if1 = at-conflict-instance .before in
+    let at-refusal7 = at-if1 .before in
+    let at-refusal6 = at-refusal7 .before in
+    let at-refusal5 = at-refusal6 .before in
+    let at-refusal4 = at-refusal5 .before in
+    let at-refusal3 = at-refusal4 .before in
+    let at-refusal2 = at-refusal3 .before in
+    let at-refusal = at-refusal2 .before in
+    let at-possible = at-refusal .before in
+    let at-again = at-possible .before .before in
+    let at-literal-exists = at-again .before in
+    let at-new-atoms = at-literal-exists .before .before in
+    let at-gathered = at-new-atoms .before in
+    let at-levels = at-gathered .before in
+    λ s R. told-as (grown-run (at-loop2 .loop2 .inv) (backtracked _ _ _ _) ∙ cut-run (at-loop .loop .inv) (backtracked _ _ _ _))
+    (backtrack-told R _ _ _ (at-literal-exists .literal-exists .ensures) (at-again .again .ensures) _ (at-levels .levels .ensures) _ (at-gathered .gathered .ensures) (at-possible .possible .result) (at-possible .possible .ensures) _ (at-new-atoms .new-atoms .ensures)
+    (at-refusal .refusal .ensures) (at-refusal2 .refusal2 .ensures) (at-refusal3 .refusal3 .ensures) (at-refusal4 .refusal4 .ensures) (at-refusal5 .refusal5 .ensures) (at-refusal6 .refusal6 .ensures) (at-refusal7 .refusal7 .ensures) (at-if1 .if1 .left) _ (at-conflict-instance .conflict-instance .ensures) _
+    (grown-all (at-loop2 .loop2 .inv) (at-loop2-test .loop2-test .left) _ _ (at-new-atoms .new-atoms .ensures) (omega arith) (stored-pushed (cut-all (at-loop .loop .inv) (at-loop-test .loop-test .left)) (omega (arith, room (at-if1 .before) (at-if1 .if1 .left) .0)) (at-propagated-entry .propagated-entry .ensures))) _ (c .no-instanced .ensures))
 
 pub backtrack-spec : {M : Type 1} → statement M
 backtrack-spec =
     tie.close
     (tie.spec
+    Inv-loop
+    μ-loop
+    Inv-loop2
+    μ-loop2
+    levels-requires
+    gathered-requires
+    new-atoms-requires
+    cast-m
+    cast-kept
+    literal-exists-requires
+    again-requires
+    possible-requires
+    add-refusal
+    cast-refusal
+    refusal-requires
+    refusal-requires-2
+    refusal-requires-3
+    refusal-requires-4
+    refusal-requires-5
+    refusal-requires-6
+    refusal-requires-7
     refused-requires
     returns
-    literal-exists-requires
-    refused-requires-2
-    returns-2
-    again-requires
-    refused-requires-3
-    returns-3
-    back-level-requires
+    add-own
+    add-own-2
     conflict-instance-requires
-    level-of-requires
-    refused-requires-4
-    returns-4
-    cut-requires
-    possible-requires
-    refused-requires-5
-    returns-5
-    add-number
-    add-number-2
-    append-propagated-requires
-    refused-requires-6
-    returns-6
-    cast-if7
-    refused-requires-7
-    returns-7
-    learning-requires
-    accepted-requires
-    returns-8)
+    blank-entry-requires
+    cast-k
+    loop-holds
+    sub-k
+    mul-blank
+    element-set-from-blank
+    loop-less
+    loop-again
+    propagated-entry-requires
+    mul-t38
+    element-set-from-self
+    loop2-holds
+    mul-a
+    element-copy-out-a
+    add-j
+    background-entry-requires
+    add-t49
+    mul-t54
+    element-set-from-self-2
+    loop2-less
+    loop2-again
+    no-instanced-requires
+    add-self
+    add-self-2
+    cast-self
+    add-self-3
+    returns-2)

@@ -1,81 +1,119 @@
-use native.Mathlib.Omega.{arith}
-use mathlib.Core.Path.{sym, _∙_}
-use Rattle.rules.proofs.Parts.{off, on}
 use Rattle.rules.proofs.Runs.{kept-small}
-use Rattle.rules.proofs.Conflicting.{conflict-long, conflict-standing, conflict-no-such, conflict-not-false, conflict-impossible, conflict-accepted}
+use Rattle.testing.proofs.Atoms.{in-room}
+use Rattle.rules.proofs.Conflicting.{conflict-refused, conflict-told}
 use borrow.Author.Needs.{needs}
 use Rattle.rules.proofs.Run.conflict.Statement.{statement}
 use Rattle.rules.proofs.Run.conflict.Tie as tie
+use Rattle.rules.proofs.Run.conflict.Reads as reads
+use Rattle.rules.proofs.Run.conflict.Lts as lts
+use Rattle.clauses.proofs.no_literal.Reads as no-literal-reads
+use Rattle.instances.proofs.first_constants.Reads as first-constants-reads
+use Rattle.rules.proofs.instance_named.Reads as instance-named-reads
+use Rattle.rules.proofs.refusal.Reads as refusal-reads
+use Rattle.rules.proofs.refused_at.Reads as refused-at-reads
+use Rattle.testing.proofs.gathered.Reads as gathered-reads
+use Rattle.testing.proofs.possible.Reads as possible-reads
+use Rattle.trail.proofs.first_not_false.Reads as first-not-false-reads
 
-refused-requires : tie.Need-refused-requires
-refused-requires c κs = search needs
-
-returns : tie.Need-returns
-returns c = rw (c .refused .ensures) (λ s R looks. conflict-long R (c .before .before .args .clause) _ _ (c .before .before .args .instance) (let g = c .before .before .good .1 .1 .1 .0 in search needs) (c .before .if1 .taken))
-
-refused-requires-2 : tie.Need-refused-requires-2
-refused-requires-2 c κs = search needs
-
-returns-2 : tie.Need-returns-2
-returns-2 c = rw (c .refused2 .ensures) (λ s R looks. conflict-standing R (c .before .before .before .args .clause) _ _ (c .before .before .before .args .instance) (let g = c .before .before .before .good .1 .1 .1 .0 in search needs) (c .before .before .if1 .left) (c .before .if2 .taken))
-
+-- src/lib.rt:482:13
 instance-named-requires : tie.Need-instance-named-requires
-instance-named-requires c κs = let h = kept-small (c .before .before .pre .0, c .before .before .pre .1) in (h .few-input, h .few-learned, c .before .if1 .left)
+instance-named-requires c κs = let h = kept-small (c .before .pre .0, c .before .pre .1) in (h .few-input, h .few-learned)
 
-refused-requires-3 : tie.Need-refused-requires-3
-refused-requires-3 c κs = search needs
-
-returns-3 : tie.Need-returns-3
-returns-3 c = rw (c .refused3 .ensures) (λ s R looks. conflict-no-such R (c .before .before .before .before .before .args .clause) _ _ (c .before .before .before .before .before .args .instance) (let g = c .before .before .before .before .before .good .1 .1 .1 .0 in search needs) (c .before .before .before .before .if1 .left) (c .before .before .before .if2 .left) looks (sym (c .before .before .instance-named .ensures) ∙ off _ (c .before .if3 .taken)))
-
-first-constants-requires : tie.Need-first-constants-requires
-first-constants-requires c κs = search needs
-
+-- src/lib.rt:492:13
 no-literal-requires : tie.Need-no-literal-requires
 no-literal-requires c κs = search needs
 
+-- src/lib.rt:493:13
 first-not-false-requires : tie.Need-first-not-false-requires
-first-not-false-requires c κs = kept-small (c .before .before .before .before .before .before .before .pre .0, c .before .before .before .before .before .before .before .pre .1) .few-entries
+first-not-false-requires c κs = kept-small (c .before .before .before .before .pre .0, c .before .before .before .before .pre .1) .few-entries
 
+-- src/lib.rt:494:13
+gathered-requires : tie.Need-gathered-requires
+gathered-requires c κs = kept-small (c .before .before .before .before .before .pre .0, c .before .before .before .before .before .pre .1) .few-entries
+
+-- src/lib.rt:495:13
+possible-requires : tie.Need-possible-requires
+possible-requires c κs = in-room (c .gathered .ensures) .few
+
+-- src/lib.rt:505:52
+refusal-requires : tie.Need-refusal-requires
+refusal-requires c κs = search needs
+
+-- src/lib.rt:505:21
+refusal-requires-2 : tie.Need-refusal-requires-2
+refusal-requires-2 c κs = search needs
+
+-- src/lib.rt:502:17
+refusal-requires-3 : tie.Need-refusal-requires-3
+refusal-requires-3 c κs = search needs
+
+-- src/lib.rt:499:13
+refusal-requires-4 : tie.Need-refusal-requires-4
+refusal-requires-4 c κs = search needs
+
+-- src/lib.rt:496:13
+refusal-requires-5 : tie.Need-refusal-requires-5
+refusal-requires-5 c κs = search needs
+
+-- src/lib.rt:510:13
 refused-at-requires : tie.Need-refused-at-requires
 refused-at-requires c κs = search needs
 
-returns-4 : tie.Need-returns-4
-returns-4 c = rw (c .refused-at .ensures) (λ s R looks. conflict-not-false R (c .before .before .before .before .before .before .before .before .before .before .args .clause) _ _ (c .before .before .before .before .before .before .before .before .before .before .args .instance) (let g = c .before .before .before .before .before .before .before .before .before .before .good .1 .1 .1 .0 in search needs) (c .before .before .before .before .before .before .before .before .before .if1 .left) (c .before .before .before .before .before .before .before .before .if2 .left) looks (sym (c .before .before .before .before .before .before .before .instance-named .ensures) ∙ on _ (c .before .before .before .before .before .before .if3 .left)) (c .before .before .before .no-literal .result) _ (c .before .before .first-not-false .ensures) (c .before .if4 .taken))
+-- src/lib.rt:510:13
+returns : tie.Need-returns
+returns c =
+    let at-if1 = c .before in
+    let at-refusal5 = at-if1 .before in
+    let at-refusal4 = at-refusal5 .before in
+    let at-refusal3 = at-refusal4 .before in
+    let at-refusal2 = at-refusal3 .before in
+    let at-refusal = at-refusal2 .before in
+    let at-possible = at-refusal .before .before in
+    let at-gathered = at-possible .before in
+    let at-first-not-false = at-gathered .before in
+    let at-no-literal = at-first-not-false .before in
+    let at-instance-named = at-no-literal .before .before in
+    let first = at-instance-named .before .before in
+    rw (c .refused-at .ensures) (λ s R looks. conflict-refused R (first .args .looked) _ _ (first .args .instance) (let g = first .good .1 .1 .1 .0 in search needs) looks _ (at-instance-named .instance-named .ensures) (at-no-literal .no-literal .result) _ (at-first-not-false .first-not-false .ensures) _ (at-gathered .gathered .ensures) (at-possible .possible .result) (at-possible .possible .ensures)
+    (at-refusal .refusal .ensures) (at-refusal2 .refusal2 .ensures) (at-refusal3 .refusal3 .ensures) (at-refusal4 .refusal4 .ensures) (at-refusal5 .refusal5 .ensures) (at-if1 .if1 .taken))
 
-possible-requires : tie.Need-possible-requires
-possible-requires c κs = let h = kept-small (c .before .before .before .before .before .before .before .before .before .pre .0, c .before .before .before .before .before .before .before .before .before .pre .1) in omega (arith, h .few-entries)
+-- src/lib.rt:512:13
+first-constants-requires : tie.Need-first-constants-requires
+first-constants-requires c κs = search needs
 
-refused-requires-4 : tie.Need-refused-requires-4
-refused-requires-4 c κs = search needs
-
-returns-5 : tie.Need-returns-5
-returns-5 c = rw (c .refused4 .ensures) (λ s R looks. conflict-impossible R (c .before .before .before .before .before .before .before .before .before .before .before .before .args .clause) _ _ (c .before .before .before .before .before .before .before .before .before .before .before .before .args .instance) (let g = c .before .before .before .before .before .before .before .before .before .before .before .before .good .1 .1 .1 .0 in search needs) (c .before .before .before .before .before .before .before .before .before .before .before .if1 .left) (c .before .before .before .before .before .before .before .before .before .before .if2 .left) looks (sym (c .before .before .before .before .before .before .before .before .before .instance-named .ensures) ∙ on _ (c .before .before .before .before .before .before .before .before .if3 .left)) (c .before .before .before .before .before .no-literal .result) _ (c .before .before .before .before .first-not-false .ensures) (c .before .before .before .if4 .left) (c .before .before .possible .result) (c .before .before .possible .ensures) (off _ (c .before .if5 .taken)))
-
-accepted-requires : tie.Need-accepted-requires
-accepted-requires c κs = search needs
-
-returns-6 : tie.Need-returns-6
-returns-6 c = rw (c .accepted .ensures) (λ s R looks. conflict-accepted R (c .before .before .before .before .before .before .before .before .before .before .before .before .args .clause) _ _ (c .before .before .before .before .before .before .before .before .before .before .before .before .args .instance) (let g = c .before .before .before .before .before .before .before .before .before .before .before .before .good .1 .1 .1 .0 in search needs) (c .before .before .before .before .before .before .before .before .before .before .before .if1 .left) (c .before .before .before .before .before .before .before .before .before .before .if2 .left) looks (sym (c .before .before .before .before .before .before .before .before .before .instance-named .ensures) ∙ on _ (c .before .before .before .before .before .before .before .before .if3 .left)) (c .before .before .before .before .before .no-literal .result) _ (c .before .before .before .before .first-not-false .ensures) (c .before .before .before .if4 .left) (c .before .before .possible .result) (c .before .before .possible .ensures) (on _ (c .before .if5 .left)) (c .before .before .before .before .before .before .before .first-constants .result) (c .before .before .before .before .before .before .before .first-constants .ensures))
+-- src/lib.rt:477:5
+returns-2 : tie.Need-returns-2
+returns-2 c =
+    let at-if1 = c .before in
+    let at-refusal5 = at-if1 .before in
+    let at-refusal4 = at-refusal5 .before in
+    let at-refusal3 = at-refusal4 .before in
+    let at-refusal2 = at-refusal3 .before in
+    let at-refusal = at-refusal2 .before in
+    let at-possible = at-refusal .before .before in
+    let at-gathered = at-possible .before in
+    let at-first-not-false = at-gathered .before in
+    let at-no-literal = at-first-not-false .before in
+    let at-instance-named = at-no-literal .before .before in
+    let first = at-instance-named .before .before in
+    λ s R looks. conflict-told R (first .args .looked) _ _ (first .args .instance) (let g = first .good .1 .1 .1 .0 in search needs) looks _ (at-instance-named .instance-named .ensures) (at-no-literal .no-literal .result) _ (at-first-not-false .first-not-false .ensures) _ (at-gathered .gathered .ensures) (at-possible .possible .result) (at-possible .possible .ensures)
+    (at-refusal .refusal .ensures) (at-refusal2 .refusal2 .ensures) (at-refusal3 .refusal3 .ensures) (at-refusal4 .refusal4 .ensures) (at-refusal5 .refusal5 .ensures) (at-if1 .if1 .left) _ (c .first-constants .ensures)
 
 pub conflict-spec : {M : Type 1} → statement M
 conflict-spec =
     tie.close
     (tie.spec
-    refused-requires
-    returns
-    refused-requires-2
-    returns-2
     instance-named-requires
-    refused-requires-3
-    returns-3
-    first-constants-requires
     no-literal-requires
     first-not-false-requires
-    refused-at-requires
-    returns-4
+    gathered-requires
     possible-requires
-    refused-requires-4
-    returns-5
-    accepted-requires
-    returns-6)
+    refusal-requires
+    refusal-requires-2
+    refusal-requires-3
+    refusal-requires-4
+    refusal-requires-5
+    refused-at-requires
+    returns
+    first-constants-requires
+    returns-2)

@@ -1,24 +1,121 @@
-use mathlib.Core.Path.{_∙_, ap}
-use Rattle.rules.specs.Effects.{topOf}
+use Prim.Native.Nat.{_<_}
+use Rattle.basis.specs.Limits.{mostEntries}
+use mathlib.Core.Path.{_≡_}
+use native.Mathlib.Omega.{arith}
 use Rattle.rules.proofs.Runs.{kept-small}
+use Rattle.rules.proofs.Deciding.{decide-refused, decide-fits, decide-told}
+use borrow.Author.Needs.{needs}
 use Rattle.rules.proofs.Run.decide.Statement.{statement}
 use Rattle.rules.proofs.Run.decide.Tie as tie
+use Rattle.rules.proofs.Run.decide.Reads as reads
+use Rattle.rules.proofs.Run.decide.Lts as lts
+use Rattle.instances.proofs.decided_literal.Reads as decided-literal-reads
+use Rattle.rules.proofs.literal_named.Reads as literal-named-reads
+use Rattle.rules.proofs.refusal.Reads as refusal-reads
+use Rattle.rules.proofs.refused.Reads as refused-reads
+use Rattle.trail.proofs.decided_entry.Reads as decided-entry-reads
+use Rattle.trail.proofs.undefined.Reads as undefined-reads
 
-is-free-requires : tie.Need-is-free-requires
-is-free-requires c κs = kept-small (c .before .pre .0, c .before .pre .1) .few-entries
+-- What was asked, and that there is room where nothing is refused
+abbrev Asked : Type 0
+Asked = lts.After-refusal6 (literal-named-reads.Asked, literal-named-reads.Learnt, decided-literal-reads.Asked, decided-literal-reads.Learnt, undefined-reads.Asked, undefined-reads.Learnt, refusal-reads.Asked, refusal-reads.Learnt, refused-reads.Asked, refused-reads.Learnt, decided-entry-reads.Asked, decided-entry-reads.Learnt) reads.Pre reads.Post
 
-top-requires : tie.Need-top-requires
-top-requires c κs = kept-small (c .before .before .pre .0, c .before .before .pre .1) .few-entries
+room : (c : Asked) → c .refusal6 .result ≡ 0 → c .before .before .before .before .before .before .before .before .before .before .before .args .t1 .length < mostEntries
+room c z = decide-fits (c .before .before .before .before .before .before .before .before .before .before .before .pre .1) (c .before .before .before .before .before .before .before .before .before .before .before .args .looked) (c .before .before .before .before .before .before .before .before .before .before .before .args .c) (c .before .before .before .before .before .before .before .before .before .before .before .args .l) (c .before .before .before .before .before .before .before .before .before .before .before .args .sign) (c .before .before .before .before .before .before .before .before .before .before .before .args .count) (c .before .before .before .before .before .before .before .before .before .before .before .args .instance) (let g = c .before .before .before .before .before .before .before .before .before .before .before .good .1 .1 .1 .1 .1 .0 in search needs) (c .before .before .before .before .before .before .before .before .before .before .before .pre .2) _ (c .before .before .before .before .before .before .before .before .decided-literal .ensures) _ _ (c .before .before .before .before .before .before .before .before .before .literal-named .ensures) (c .before .before .before .before .before .before .undefined .ensures) (c .before .before .before .before .before .refusal .ensures) (c .before .before .before .before .refusal2 .ensures) (c .before .before .before .refusal3 .ensures) (c .before .before .refusal4 .ensures) (c .before .refusal5 .ensures) (c .refusal6 .ensures) z
 
-decide-requires : tie.Need-decide-requires
-decide-requires c κs = (c .before .before .before .args .self, _, (c .before .before .before .pre .0, c .before .before .before .pre .1), c .top .ensures)
+-- src/lib.rt:430:13
+literal-named-requires : tie.Need-literal-named-requires
+literal-named-requires c κs = let h = kept-small (c .before .pre .0, c .before .pre .1) in (h .few-input, h .few-learned)
 
-after-requires : tie.Need-after-requires
-after-requires c κs = c .decide .ensures _ (c .before .before .before .before .pre .0, c .before .before .before .before .pre .1) (c .before .top .ensures ∙ ap (topOf (c .before .before .before .before .args .self)) (c .before .before .is-free .ensures)) .fits
+-- src/lib.rt:440:13
+decided-literal-requires : tie.Need-decided-literal-requires
+decided-literal-requires c κs = search needs
 
+-- src/lib.rt:442:13
+undefined-requires : tie.Need-undefined-requires
+undefined-requires c κs = kept-small (c .before .before .before .before .pre .0, c .before .before .before .before .pre .1) .few-entries
+
+-- src/lib.rt:443:17
+cast-m : tie.Need-cast-m
+cast-m c = omega (arith, kept-small (c .before .before .before .before .before .pre .0, c .before .before .before .before .before .pre .1) .few-entries)
+
+-- src/lib.rt:456:56
+refusal-requires : tie.Need-refusal-requires
+refusal-requires c κs = search needs
+
+-- src/lib.rt:456:25
+refusal-requires-2 : tie.Need-refusal-requires-2
+refusal-requires-2 c κs = search needs
+
+-- src/lib.rt:453:21
+refusal-requires-3 : tie.Need-refusal-requires-3
+refusal-requires-3 c κs = search needs
+
+-- src/lib.rt:450:17
+refusal-requires-4 : tie.Need-refusal-requires-4
+refusal-requires-4 c κs = search needs
+
+-- src/lib.rt:447:13
+refusal-requires-5 : tie.Need-refusal-requires-5
+refusal-requires-5 c κs = search needs
+
+-- src/lib.rt:444:13
+refusal-requires-6 : tie.Need-refusal-requires-6
+refusal-requires-6 c κs = search needs
+
+-- src/lib.rt:462:13
+refused-requires : tie.Need-refused-requires
+refused-requires c κs = search needs
+
+-- src/lib.rt:462:13
 returns : tie.Need-returns
-returns c = rw (c .after .ensures) (c .before .decide .ensures _ (c .before .before .before .before .before .pre .0, c .before .before .before .before .before .pre .1) (c .before .before .top .ensures ∙ ap (topOf (c .before .before .before .before .before .args .self)) (c .before .before .before .is-free .ensures)) .answers tt)
+returns c = rw (c .refused .ensures) (λ s R looks. decide-refused R (c .before .before .before .before .before .before .before .before .before .before .before .before .before .args .looked) _ _ _ _ (c .before .before .before .before .before .before .before .before .before .before .before .before .before .args .instance) (let g = c .before .before .before .before .before .before .before .before .before .before .before .before .before .good .1 .1 .1 .1 .1 .0 in search needs) looks _ (c .before .before .before .before .before .before .before .before .before .before .decided-literal .ensures) _ _ (c .before .before .before .before .before .before .before .before .before .before .before .literal-named .ensures) (c .before .before .before .before .before .before .before .before .undefined .ensures)
+    (c .before .before .before .before .before .before .before .refusal .ensures) (c .before .before .before .before .before .before .refusal2 .ensures) (c .before .before .before .before .before .refusal3 .ensures) (c .before .before .before .before .refusal4 .ensures) (c .before .before .before .refusal5 .ensures) (c .before .before .refusal6 .ensures) (c .before .if1 .taken))
+
+-- src/lib.rt:464:25
+decided-entry-requires : tie.Need-decided-entry-requires
+decided-entry-requires c κs = search needs
+
+-- src/lib.rt:464:9
+mul-t20 : tie.Need-mul-t20
+mul-t20 c = omega (arith, kept-small (c .before .before .before .before .before .before .before .before .before .before .before .before .before .pre .0, c .before .before .before .before .before .before .before .before .before .before .before .before .before .pre .1) .few-entries)
+
+-- src/lib.rt:464:9
+element-set-from-self : tie.Need-element-set-from-self
+element-set-from-self c = omega (arith, room (c .before .before) (c .before .if1 .left))
+
+-- src/lib.rt:465:9
+add-self : tie.Need-add-self
+add-self c = omega (arith, room (c .before .before) (c .before .if1 .left))
+
+-- src/lib.rt:466:9
+add-self-2 : tie.Need-add-self-2
+add-self-2 c = omega (arith, kept-small (c .before .before .before .before .before .before .before .before .before .before .before .before .before .pre .0, c .before .before .before .before .before .before .before .before .before .before .before .before .before .pre .1) .few-decisions, room (c .before .before) (c .before .if1 .left))
+
+-- src/lib.rt:416:5
+returns-2 : tie.Need-returns-2
+returns-2 c = λ s R looks. decide-told R (c .before .before .before .before .before .before .before .before .before .before .before .before .before .args .looked) _ _ _ _ (c .before .before .before .before .before .before .before .before .before .before .before .before .before .args .instance) (let g = c .before .before .before .before .before .before .before .before .before .before .before .before .before .good .1 .1 .1 .1 .1 .0 in search needs) looks _ (c .before .before .before .before .before .before .before .before .before .before .decided-literal .ensures) _ _ (c .before .before .before .before .before .before .before .before .before .before .before .literal-named .ensures) (c .before .before .before .before .before .before .before .before .undefined .ensures)
+    (c .before .before .before .before .before .before .before .refusal .ensures) (c .before .before .before .before .before .before .refusal2 .ensures) (c .before .before .before .before .before .refusal3 .ensures) (c .before .before .before .before .refusal4 .ensures) (c .before .before .before .refusal5 .ensures) (c .before .before .refusal6 .ensures) (c .before .if1 .left) _ (c .decided-entry .ensures)
 
 pub decide-spec : {M : Type 1} → statement M
 decide-spec =
-    tie.close (tie.spec is-free-requires top-requires decide-requires after-requires returns)
+    tie.close
+    (tie.spec
+    literal-named-requires
+    decided-literal-requires
+    undefined-requires
+    cast-m
+    refusal-requires
+    refusal-requires-2
+    refusal-requires-3
+    refusal-requires-4
+    refusal-requires-5
+    refusal-requires-6
+    refused-requires
+    returns
+    decided-entry-requires
+    mul-t20
+    element-set-from-self
+    add-self
+    add-self-2
+    returns-2)

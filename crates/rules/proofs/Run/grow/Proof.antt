@@ -1,19 +1,65 @@
-use mathlib.Core.Bool.{true}
-use Rattle.rules.proofs.Runs.{kept-small}
+use native.Mathlib.Omega.{arith}
+use Rattle.rules.proofs.Simple.{grow-refused, grow-passed, grow-accepted}
+use borrow.Author.Needs.{needs}
 use Rattle.rules.proofs.Run.grow.Statement.{statement}
 use Rattle.rules.proofs.Run.grow.Tie as tie
+use Rattle.rules.proofs.Run.grow.Reads as reads
+use Rattle.rules.proofs.Run.grow.Lts as lts
+use Rattle.rules.proofs.refusal.Reads as refusal-reads
+use Rattle.rules.proofs.refused.Reads as refused-reads
+use Rattle.trail.proofs.empty_trail.Reads as empty-trail-reads
 
-top-requires : tie.Need-top-requires
-top-requires c κs = kept-small (c .pre) .few-entries
+-- src/lib.rt:710:25
+cast-constants : tie.Need-cast-constants
+cast-constants c = search needs
 
-grow-requires : tie.Need-grow-requires
-grow-requires c κs = (c .before .args .self, true, c .before .pre, c .top .ensures)
+-- src/lib.rt:710:25
+add-constants : tie.Need-add-constants
+add-constants c = search needs
 
-after-requires : tie.Need-after-requires
-after-requires c κs = c .grow .ensures (c .before .before .args .self .conflict .clause) (c .before .before .args .self) true (c .before .before .pre) (c .before .top .ensures) .fits
+-- src/lib.rt:717:17
+refusal-requires : tie.Need-refusal-requires
+refusal-requires c κs = search needs
 
+-- src/lib.rt:714:13
+refusal-requires-2 : tie.Need-refusal-requires-2
+refusal-requires-2 c κs = search needs
+
+-- src/lib.rt:711:13
+refusal-requires-3 : tie.Need-refusal-requires-3
+refusal-requires-3 c κs = search needs
+
+-- src/lib.rt:721:13
+refused-requires : tie.Need-refused-requires
+refused-requires c κs = search needs
+
+-- src/lib.rt:721:13
 returns : tie.Need-returns
-returns c = rw (c .after .ensures) (λ s R. c .before .grow .ensures (c .before .before .before .args .self .conflict .clause) (c .before .before .before .args .self) true (c .before .before .before .pre) (c .before .before .top .ensures) .answers tt s R tt)
+returns c = rw (c .refused .ensures) (λ s R. grow-refused R _ (c .before .before .before .before .refusal .ensures) (c .before .before .before .refusal2 .ensures) (c .before .before .refusal3 .ensures) (c .before .if1 .taken))
+
+-- src/lib.rt:723:13
+empty-trail-requires : tie.Need-empty-trail-requires
+empty-trail-requires c κs = search needs
+
+-- src/lib.rt:724:26
+cast-self : tie.Need-cast-self
+cast-self c = let h = grow-passed (c .before .before .before .before .before .before .before .pre .1) _ (c .before .before .before .before .refusal .ensures) (c .before .before .before .refusal2 .ensures) (c .before .before .refusal3 .ensures) (c .before .if1 .left) in omega (arith, h .2)
+
+-- src/lib.rt:706:5
+returns-2 : tie.Need-returns-2
+returns-2 c = λ s R. let h = grow-passed R _ (c .before .before .before .before .refusal .ensures) (c .before .before .before .refusal2 .ensures) (c .before .before .refusal3 .ensures) (c .before .if1 .left) in grow-accepted R _ (h .0) (h .1) (h .2) _ (c .empty-trail .ensures)
 
 pub grow-spec : {M : Type 1} → statement M
-grow-spec = tie.close (tie.spec top-requires grow-requires after-requires returns)
+grow-spec =
+    tie.close
+    (tie.spec
+    cast-constants
+    add-constants
+    refusal-requires
+    refusal-requires-2
+    refusal-requires-3
+    refused-requires
+    returns
+    empty-trail-requires
+    cast-self
+    returns-2)

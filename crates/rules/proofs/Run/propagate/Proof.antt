@@ -1,102 +1,258 @@
-use native.Mathlib.Omega.{arith}
-use mathlib.Core.Path.{sym, _∙_}
-use Rattle.rules.proofs.Naming.{none-refused}
-use Rattle.rules.proofs.Parts.{off, on}
-use Rattle.rules.proofs.Runs.{kept-small}
-use Rattle.rules.proofs.Propagating.{propagate-long, propagate-standing, propagate-unnamed, propagate-not-false, propagate-impossible, propagate-no-room, propagate-accepted}
+use Rattle.basis.specs.Limits.{mostEntries}
+use mathlib.Core.Path.{_≡_}
 use borrow.Author.Needs.{needs}
+use native.Mathlib.Omega.{arith}
+use Prim.Native.Nat.{_+_, _-_, _<_}
+use Rattle.rules.proofs.Growing.{Grows, few-new, grows-start, grows-turn, grown-all, grown-run, lengthened}
+use Rattle.rules.proofs.Runs.{kept-small}
+use Rattle.rules.proofs.Propagating.{propagate-refused, propagate-fits, propagate-told}
+use Rattle.rules.proofs.Told.{told-as}
+use Rattle.testing.proofs.Atoms.{in-room}
+use Rattle.trail.proofs.Stored.{stored-pushed}
 use Rattle.rules.proofs.Run.propagate.Statement.{statement}
 use Rattle.rules.proofs.Run.propagate.Tie as tie
+use Rattle.rules.proofs.Run.propagate.Reads as reads
+use Rattle.rules.proofs.Run.propagate.Lts as lts
+use Rattle.instances.proofs.literal_instance.Reads as literal-instance-reads
+use Rattle.rules.proofs.literal_named.Reads as literal-named-reads
+use Rattle.rules.proofs.refusal.Reads as refusal-reads
+use Rattle.rules.proofs.refused_at.Reads as refused-at-reads
+use Rattle.testing.proofs.gathered.Reads as gathered-reads
+use Rattle.testing.proofs.new_atoms.Reads as new-atoms-reads
+use Rattle.testing.proofs.possible.Reads as possible-reads
+use Rattle.trail.proofs.background_entry.Reads as background-entry-reads
+use Rattle.trail.proofs.literals_seen.Reads as literals-seen-reads
+use Rattle.trail.proofs.propagated_entry.Reads as propagated-entry-reads
 
-refused-requires : tie.Need-refused-requires
-refused-requires c κs = search needs
+abbrev Inv-loop : tie.InvT-loop
+Inv-loop c l count named m together fresh n number next₀ j₀ next j = Grows next₀ next fresh m j
 
-returns : tie.Need-returns
-returns c = rw (c .refused .ensures) (λ s R looks. propagate-long R (c .before .before .args .clause) _ _ _ (c .before .before .args .instance) (let g = c .before .before .good .1 .1 .1 .1 .0 in search needs) (c .before .if1 .taken))
+abbrev μ-loop : tie.MeasureT-loop
+μ-loop c l count named m together fresh n number next₀ j₀ next j = n - j
 
-refused-requires-2 : tie.Need-refused-requires-2
-refused-requires-2 c κs = search needs
+-- What was asked, and that there is room where nothing is refused
+abbrev Asked : Type 0
+Asked = lts.After-refusal7 (literal-named-reads.Asked, literal-named-reads.Learnt, literal-instance-reads.Asked, literal-instance-reads.Learnt, literals-seen-reads.Asked, literals-seen-reads.Learnt, gathered-reads.Asked, gathered-reads.Learnt, possible-reads.Asked, possible-reads.Learnt, new-atoms-reads.Asked, new-atoms-reads.Learnt, refusal-reads.Asked, refusal-reads.Learnt, refused-at-reads.Asked, refused-at-reads.Learnt, propagated-entry-reads.Asked, propagated-entry-reads.Learnt, background-entry-reads.Asked, background-entry-reads.Learnt) reads.Pre reads.Post Inv-loop μ-loop
 
-returns-2 : tie.Need-returns-2
-returns-2 c = rw (c .refused2 .ensures) (λ s R looks. propagate-standing R (c .before .before .before .args .clause) _ _ _ (c .before .before .before .args .instance) (let g = c .before .before .before .good .1 .1 .1 .1 .0 in search needs) (c .before .before .if1 .left) (c .before .if2 .taken))
+room : (c : Asked) → c .refusal7 .result ≡ 0 → c .before .before .before .before .before .before .before .before .before .before .before .before .before .before .before .before .before .before .args .self .length + c .before .before .before .before .before .before .before .before .before .new-atoms .result .count < mostEntries
+room c z = propagate-fits (c .before .before .before .before .before .before .before .before .before .before .before .before .before .before .before .before .before .before .pre .1) (c .before .before .before .before .before .before .before .before .before .before .before .before .before .before .before .before .before .before .args .looked) (c .before .before .before .before .before .before .before .before .before .before .before .before .before .before .before .before .before .before .args .c) (c .before .before .before .before .before .before .before .before .before .before .before .before .before .before .before .before .before .before .args .l) (c .before .before .before .before .before .before .before .before .before .before .before .before .before .before .before .before .before .before .args .count) (c .before .before .before .before .before .before .before .before .before .before .before .before .before .before .before .before .before .before .args .instance) (let g = c .before .before .before .before .before .before .before .before .before .before .before .before .before .before .before .before .before .before .good .1 .1 .1 .1 .0 in search needs) (c .before .before .before .before .before .before .before .before .before .before .before .before .before .before .before .before .before .before .pre .2) _ (c .before .before .before .before .before .before .before .before .before .before .before .before .before .before .before .before .literal-named .ensures) _ (c .before .before .before .before .before .before .before .before .before .before .before .before .before .before .before .literal-instance .ensures) _ (c .before .before .before .before .before .before .before .before .before .before .before .before .literals-seen .ensures) _ (c .before .before .before .before .before .before .before .before .before .before .before .gathered .ensures) (c .before .before .before .before .before .before .before .before .before .before .possible .result) (c .before .before .before .before .before .before .before .before .before .before .possible .ensures) _ (c .before .before .before .before .before .before .before .before .before .new-atoms .ensures) (c .before .before .before .before .before .before .refusal .ensures) (c .before .before .before .before .before .refusal2 .ensures) (c .before .before .before .before .refusal3 .ensures) (c .before .before .before .refusal4 .ensures) (c .before .before .refusal5 .ensures) (c .before .refusal6 .ensures) (c .refusal7 .ensures) z
 
-literal-named-requires : tie.Need-literal-named-requires
-literal-named-requires c κs = let h = kept-small (c .before .before .before .pre .0, c .before .before .before .pre .1) in (h .few-input, h .few-learned, c .before .before .if1 .left)
+-- src/lib.rt:352:13
+literal-named-requires : tie.Need-literal-named-requires Inv-loop μ-loop
+literal-named-requires c κs = let h = kept-small (c .before .pre .0, c .before .pre .1) in (h .few-input, h .few-learned)
 
-literal-instance-requires : tie.Need-literal-instance-requires
+-- src/lib.rt:362:13
+literal-instance-requires : tie.Need-literal-instance-requires Inv-loop μ-loop
 literal-instance-requires c κs = search needs
 
-undefined-requires : tie.Need-undefined-requires
-undefined-requires c κs = kept-small (c .before .before .before .before .before .pre .0, c .before .before .before .before .before .pre .1) .few-entries
+-- src/lib.rt:364:17
+cast-m : tie.Need-cast-m Inv-loop μ-loop
+cast-m c = omega (arith, kept-small (c .before .before .before .before .before .pre .0, c .before .before .before .before .before .pre .1) .few-entries)
 
-naming-refusal-requires : tie.Need-naming-refusal-requires
-naming-refusal-requires c κs = search needs
+-- src/lib.rt:365:13
+literals-seen-requires : tie.Need-literals-seen-requires Inv-loop μ-loop
+literals-seen-requires c κs = kept-small (c .before .before .before .before .before .pre .0, c .before .before .before .before .before .pre .1) .few-entries
 
-refused-requires-3 : tie.Need-refused-requires-3
-refused-requires-3 c κs = search needs
+-- src/lib.rt:366:13
+gathered-requires : tie.Need-gathered-requires Inv-loop μ-loop
+gathered-requires c κs = kept-small (c .before .before .before .before .before .before .pre .0, c .before .before .before .before .before .before .pre .1) .few-entries
 
-returns-3 : tie.Need-returns-3
-returns-3 c = rw (c .refused3 .ensures) (λ s R looks. propagate-unnamed R (c .before .before .before .before .before .before .before .before .before .args .clause) _ _ _ (c .before .before .before .before .before .before .before .before .before .args .instance) (let g = c .before .before .before .before .before .before .before .before .before .good .1 .1 .1 .1 .0 in search needs) (c .before .before .before .before .before .before .before .before .if1 .left) (c .before .before .before .before .before .before .before .if2 .left) looks _ (c .before .before .before .before .literal-instance .ensures) _ _ (c .before .before .before .before .before .literal-named .ensures) (c .before .before .before .undefined .ensures) _ (c .before .before .naming-refusal .ensures) (c .before .if3 .taken))
+-- src/lib.rt:367:13
+possible-requires : tie.Need-possible-requires Inv-loop μ-loop
+possible-requires c κs = in-room (c .gathered .ensures) .few
 
-first-not-false-requires : tie.Need-first-not-false-requires
-first-not-false-requires c κs = kept-small (c .before .before .before .before .before .before .before .before .pre .0, c .before .before .before .before .before .before .before .before .pre .1) .few-entries
+-- src/lib.rt:368:21
+new-atoms-requires : tie.Need-new-atoms-requires Inv-loop μ-loop
+new-atoms-requires c κs = in-room (c .before .gathered .ensures)
 
-refused-at-requires : tie.Need-refused-at-requires
+-- src/lib.rt:369:17
+cast-n : tie.Need-cast-n Inv-loop μ-loop
+cast-n c = omega (arith, few-new (c .before .before .gathered .ensures) (c .new-atoms .ensures))
+
+-- src/lib.rt:388:41
+add-refusal : tie.Need-add-refusal Inv-loop μ-loop
+add-refusal c = omega (arith, kept-small (c .before .before .before .before .before .before .before .before .before .before .before .pre .0, c .before .before .before .before .before .before .before .before .before .before .before .pre .1) .few-entries, few-new (c .before .before .before .before .gathered .ensures) (c .before .before .new-atoms .ensures))
+
+-- src/lib.rt:388:33
+refusal-requires : tie.Need-refusal-requires Inv-loop μ-loop
+refusal-requires c κs = search needs
+
+-- src/lib.rt:385:29
+refusal-requires-2 : tie.Need-refusal-requires-2 Inv-loop μ-loop
+refusal-requires-2 c κs = search needs
+
+-- src/lib.rt:382:25
+refusal-requires-3 : tie.Need-refusal-requires-3 Inv-loop μ-loop
+refusal-requires-3 c κs = search needs
+
+-- src/lib.rt:379:21
+refusal-requires-4 : tie.Need-refusal-requires-4 Inv-loop μ-loop
+refusal-requires-4 c κs = search needs
+
+-- src/lib.rt:376:17
+refusal-requires-5 : tie.Need-refusal-requires-5 Inv-loop μ-loop
+refusal-requires-5 c κs = search needs
+
+-- src/lib.rt:373:13
+refusal-requires-6 : tie.Need-refusal-requires-6 Inv-loop μ-loop
+refusal-requires-6 c κs = search needs
+
+-- src/lib.rt:370:13
+refusal-requires-7 : tie.Need-refusal-requires-7 Inv-loop μ-loop
+refusal-requires-7 c κs = search needs
+
+-- src/lib.rt:396:13
+refused-at-requires : tie.Need-refused-at-requires Inv-loop μ-loop
 refused-at-requires c κs = search needs
 
-returns-4 : tie.Need-returns-4
-returns-4 c = let h = none-refused _ _ (sym (c .before .before .before .before .naming-refusal .ensures) ∙ c .before .before .before .if3 .left) in rw (c .refused-at .ensures) (λ s R looks. propagate-not-false R (c .before .before .before .before .before .before .before .before .before .before .before .args .clause) _ _ _ (c .before .before .before .before .before .before .before .before .before .before .before .args .instance) (let g = c .before .before .before .before .before .before .before .before .before .before .before .good .1 .1 .1 .1 .0 in search needs) (c .before .before .before .before .before .before .before .before .before .before .if1 .left) (c .before .before .before .before .before .before .before .before .before .if2 .left) looks (sym (c .before .before .before .before .before .before .before .literal-named .ensures) ∙ h .0) _ (c .before .before .before .before .before .before .literal-instance .ensures) (sym (c .before .before .before .before .before .undefined .ensures) ∙ h .1) _ (c .before .before .first-not-false .ensures) (c .before .if4 .taken))
+-- src/lib.rt:396:13
+returns : tie.Need-returns Inv-loop μ-loop
+returns c =
+    let at-if1 = c .before in
+    let at-refusal7 = at-if1 .before in
+    let at-refusal6 = at-refusal7 .before in
+    let at-refusal5 = at-refusal6 .before in
+    let at-refusal4 = at-refusal5 .before in
+    let at-refusal3 = at-refusal4 .before in
+    let at-refusal2 = at-refusal3 .before in
+    let at-refusal = at-refusal2 .before in
+    let at-new-atoms = at-refusal .before .before .before in
+    let at-possible = at-new-atoms .before in
+    let at-gathered = at-possible .before in
+    let at-literals-seen = at-gathered .before in
+    let at-literal-instance = at-literals-seen .before .before .before in
+    let at-literal-named = at-literal-instance .before in
+    let first = at-literal-named .before .before in
+    rw (c .refused-at .ensures) (λ s R looks. propagate-refused R (first .args .looked) _ _ _ (first .args .instance) (let g = first .good .1 .1 .1 .1 .0 in search needs) looks _ (at-literal-named .literal-named .ensures) _ (at-literal-instance .literal-instance .ensures) _ (at-literals-seen .literals-seen .ensures) _ (at-gathered .gathered .ensures) (at-possible .possible .result) (at-possible .possible .ensures) _ (at-new-atoms .new-atoms .ensures)
+    (at-refusal .refusal .ensures) (at-refusal2 .refusal2 .ensures) (at-refusal3 .refusal3 .ensures) (at-refusal4 .refusal4 .ensures) (at-refusal5 .refusal5 .ensures) (at-refusal6 .refusal6 .ensures) (at-refusal7 .refusal7 .ensures) (at-if1 .if1 .taken))
 
-possible-requires : tie.Need-possible-requires
-possible-requires c κs = let h = kept-small (c .before .before .before .before .before .before .before .before .before .before .pre .0, c .before .before .before .before .before .before .before .before .before .before .pre .1) in omega (arith, h .few-entries)
+-- src/lib.rt:399:25
+propagated-entry-requires : tie.Need-propagated-entry-requires Inv-loop μ-loop
+propagated-entry-requires c κs = search needs
 
-refused-requires-4 : tie.Need-refused-requires-4
-refused-requires-4 c κs = search needs
+-- src/lib.rt:399:9
+mul-t23 : tie.Need-mul-t23 Inv-loop μ-loop
+mul-t23 c = omega (arith, kept-small (c .before .before .before .before .before .before .before .before .before .before .before .before .before .before .before .before .before .before .before .before .pre .0, c .before .before .before .before .before .before .before .before .before .before .before .before .before .before .before .before .before .before .before .before .pre .1) .few-entries)
 
-returns-5 : tie.Need-returns-5
-returns-5 c = let h = none-refused _ _ (sym (c .before .before .before .before .before .before .naming-refusal .ensures) ∙ c .before .before .before .before .before .if3 .left) in rw (c .refused4 .ensures) (λ s R looks. propagate-impossible R (c .before .before .before .before .before .before .before .before .before .before .before .before .before .args .clause) _ _ _ (c .before .before .before .before .before .before .before .before .before .before .before .before .before .args .instance) (let g = c .before .before .before .before .before .before .before .before .before .before .before .before .before .good .1 .1 .1 .1 .0 in search needs) (c .before .before .before .before .before .before .before .before .before .before .before .before .if1 .left) (c .before .before .before .before .before .before .before .before .before .before .before .if2 .left) looks (sym (c .before .before .before .before .before .before .before .before .before .literal-named .ensures) ∙ h .0) _ (c .before .before .before .before .before .before .before .before .literal-instance .ensures) (sym (c .before .before .before .before .before .before .before .undefined .ensures) ∙ h .1) _ (c .before .before .before .before .first-not-false .ensures) (c .before .before .before .if4 .left) (c .before .before .possible .result) (c .before .before .possible .ensures) (off _ (c .before .if5 .taken)))
+-- src/lib.rt:399:9
+element-set-from-next : tie.Need-element-set-from-next Inv-loop μ-loop
+element-set-from-next c = omega (arith, room (c .before .before) (c .before .if1 .left))
 
-append-propagated-requires : tie.Need-append-propagated-requires
-append-propagated-requires c κs = kept-small (c .before .before .before .before .before .before .before .before .before .before .before .before .pre .0, c .before .before .before .before .before .before .before .before .before .before .before .before .pre .1) .trail-held
+-- src/lib.rt:401:9
+loop-holds : tie.Need-loop-holds Inv-loop μ-loop
+loop-holds c = grows-start _ _ _
 
-refused-requires-5 : tie.Need-refused-requires-5
-refused-requires-5 c κs = search needs
+-- src/lib.rt:402:21
+mul-a : tie.Need-mul-a Inv-loop μ-loop
+mul-a c = omega (arith, few-new (c .before .before .before .before .before .before .before .before .before .before .before .before .before .before .before .gathered .ensures) (c .before .before .before .before .before .before .before .before .before .before .before .before .before .new-atoms .ensures), c .loop-test .taken)
 
-returns-6 : tie.Need-returns-6
-returns-6 c = let h = none-refused _ _ (sym (c .before .before .before .before .before .before .before .before .before .naming-refusal .ensures) ∙ c .before .before .before .before .before .before .before .before .if3 .left) in rw (c .refused5 .ensures) (λ s R looks. propagate-no-room R (c .before .before .before .before .before .before .before .before .before .before .before .before .before .before .before .before .args .clause) _ _ _ (c .before .before .before .before .before .before .before .before .before .before .before .before .before .before .before .before .args .instance) (let g = c .before .before .before .before .before .before .before .before .before .before .before .before .before .before .before .before .good .1 .1 .1 .1 .0 in search needs) (c .before .before .before .before .before .before .before .before .before .before .before .before .before .before .before .if1 .left) (c .before .before .before .before .before .before .before .before .before .before .before .before .before .before .if2 .left) looks (sym (c .before .before .before .before .before .before .before .before .before .before .before .before .literal-named .ensures) ∙ h .0) _ (c .before .before .before .before .before .before .before .before .before .before .before .literal-instance .ensures) (sym (c .before .before .before .before .before .before .before .before .before .before .undefined .ensures) ∙ h .1) _ (c .before .before .before .before .before .before .before .first-not-false .ensures) (c .before .before .before .before .before .before .if4 .left) (c .before .before .before .before .before .possible .result) (c .before .before .before .before .before .possible .ensures) (on _ (c .before .before .before .before .if5 .left)) (c .before .before .before .append-propagated .result) (c .before .before .before .append-propagated .ensures) (off _ (c .before .if6 .taken)))
+-- src/lib.rt:402:21
+element-copy-out-a : tie.Need-element-copy-out-a Inv-loop μ-loop
+element-copy-out-a c = omega (arith, few-new (c .before .before .before .before .before .before .before .before .before .before .before .before .before .before .before .gathered .ensures) (c .before .before .before .before .before .before .before .before .before .before .before .before .before .new-atoms .ensures), c .loop-test .taken)
 
-with-trail-requires : tie.Need-with-trail-requires
-with-trail-requires c κs = search needs
+-- src/lib.rt:403:13
+add-j : tie.Need-add-j Inv-loop μ-loop
+add-j c = omega (arith, few-new (c .before .before .before .before .before .before .before .before .before .before .before .before .before .before .before .before .gathered .ensures) (c .before .before .before .before .before .before .before .before .before .before .before .before .before .before .new-atoms .ensures), c .before .loop-test .taken)
 
-accepted-requires : tie.Need-accepted-requires
-accepted-requires c κs = search needs
+-- src/lib.rt:404:33
+background-entry-requires : tie.Need-background-entry-requires Inv-loop μ-loop
+background-entry-requires c κs = search needs
 
-returns-7 : tie.Need-returns-7
-returns-7 c = let h = none-refused _ _ (sym (c .before .before .before .before .before .before .before .before .before .before .naming-refusal .ensures) ∙ c .before .before .before .before .before .before .before .before .before .if3 .left) in rw (c .accepted .ensures, c .before .with-trail .ensures) (λ s R looks. propagate-accepted R (c .before .before .before .before .before .before .before .before .before .before .before .before .before .before .before .before .before .args .clause) _ _ _ (c .before .before .before .before .before .before .before .before .before .before .before .before .before .before .before .before .before .args .instance) (let g = c .before .before .before .before .before .before .before .before .before .before .before .before .before .before .before .before .before .good .1 .1 .1 .1 .0 in search needs) (c .before .before .before .before .before .before .before .before .before .before .before .before .before .before .before .before .if1 .left) (c .before .before .before .before .before .before .before .before .before .before .before .before .before .before .before .if2 .left) looks (sym (c .before .before .before .before .before .before .before .before .before .before .before .before .before .literal-named .ensures) ∙ h .0) _ (c .before .before .before .before .before .before .before .before .before .before .before .before .literal-instance .ensures) (sym (c .before .before .before .before .before .before .before .before .before .before .before .undefined .ensures) ∙ h .1) _ (c .before .before .before .before .before .before .before .before .first-not-false .ensures) (c .before .before .before .before .before .before .before .if4 .left) (c .before .before .before .before .before .before .possible .result) (c .before .before .before .before .before .before .possible .ensures) (on _ (c .before .before .before .before .before .if5 .left)) (c .before .before .before .before .append-propagated .result) (c .before .before .before .before .append-propagated .ensures) (on _ (c .before .before .if6 .left)))
+-- src/lib.rt:404:24
+add-t38 : tie.Need-add-t38 Inv-loop μ-loop
+add-t38 c = omega (arith, kept-small (c .before .before .before .before .before .before .before .before .before .before .before .before .before .before .before .before .before .before .before .before .before .before .before .before .pre .0, c .before .before .before .before .before .before .before .before .before .before .before .before .before .before .before .before .before .before .before .before .before .before .before .before .pre .1) .few-entries, few-new (c .before .before .before .before .before .before .before .before .before .before .before .before .before .before .before .before .before .gathered .ensures) (c .before .before .before .before .before .before .before .before .before .before .before .before .before .before .before .new-atoms .ensures), c .before .before .loop-test .taken)
+
+-- src/lib.rt:404:13
+mul-t43 : tie.Need-mul-t43 Inv-loop μ-loop
+mul-t43 c = omega (arith, kept-small (c .before .before .before .before .before .before .before .before .before .before .before .before .before .before .before .before .before .before .before .before .before .before .before .before .pre .0, c .before .before .before .before .before .before .before .before .before .before .before .before .before .before .before .before .before .before .before .before .before .before .before .before .pre .1) .few-entries, few-new (c .before .before .before .before .before .before .before .before .before .before .before .before .before .before .before .before .before .gathered .ensures) (c .before .before .before .before .before .before .before .before .before .before .before .before .before .before .before .new-atoms .ensures), c .before .before .loop-test .taken)
+
+-- src/lib.rt:404:13
+element-set-from-next-2 : tie.Need-element-set-from-next-2 Inv-loop μ-loop
+element-set-from-next-2 c = omega (arith, room (c .before .before .before .before .before .before) (c .before .before .before .before .before .if1 .left), c .before .before .loop-test .taken)
+
+-- src/lib.rt:401:9
+loop-less : tie.Need-loop-less Inv-loop μ-loop
+loop-less c = search needs
+
+-- src/lib.rt:401:9
+loop-again : tie.Need-loop-again Inv-loop μ-loop
+loop-again c = grows-turn (c .before .before .before .loop .inv) (c .before .before .loop-test .taken) (few-new (c .before .before .before .before .before .before .before .before .before .before .before .before .before .before .before .before .before .gathered .ensures) (c .before .before .before .before .before .before .before .before .before .before .before .before .before .before .before .new-atoms .ensures)) (room (c .before .before .before .before .before .before) (c .before .before .before .before .before .if1 .left)) (omega arith) (c .background-entry .ensures)
+
+-- src/lib.rt:406:24
+add-next : tie.Need-add-next Inv-loop μ-loop
+add-next c = omega (arith, kept-small (c .before .before .before .before .before .before .before .before .before .before .before .before .before .before .before .before .before .before .before .before .before .before .pre .0, c .before .before .before .before .before .before .before .before .before .before .before .before .before .before .before .before .before .before .before .before .before .before .pre .1) .few-entries, few-new (c .before .before .before .before .before .before .before .before .before .before .before .before .before .before .before .gathered .ensures) (c .before .before .before .before .before .before .before .before .before .before .before .before .before .new-atoms .ensures))
+
+-- src/lib.rt:406:24
+add-next-2 : tie.Need-add-next-2 Inv-loop μ-loop
+add-next-2 c = omega (arith, kept-small (c .before .before .before .before .before .before .before .before .before .before .before .before .before .before .before .before .before .before .before .before .before .before .pre .0, c .before .before .before .before .before .before .before .before .before .before .before .before .before .before .before .before .before .before .before .before .before .before .pre .1) .few-entries, few-new (c .before .before .before .before .before .before .before .before .before .before .before .before .before .before .before .gathered .ensures) (c .before .before .before .before .before .before .before .before .before .before .before .before .before .new-atoms .ensures))
+
+-- src/lib.rt:406:23
+cast-next : tie.Need-cast-next Inv-loop μ-loop
+cast-next c = omega (arith, kept-small (c .before .before .before .before .before .before .before .before .before .before .before .before .before .before .before .before .before .before .before .before .before .before .pre .0, c .before .before .before .before .before .before .before .before .before .before .before .before .before .before .before .before .before .before .before .before .before .before .pre .1) .few-entries, few-new (c .before .before .before .before .before .before .before .before .before .before .before .before .before .before .before .gathered .ensures) (c .before .before .before .before .before .before .before .before .before .before .before .before .before .new-atoms .ensures))
+
+-- src/lib.rt:340:5
+returns-2 : tie.Need-returns-2 Inv-loop μ-loop
+returns-2 c =
+    let at-loop = c .before in
+    let at-propagated-entry = at-loop .before in
+    let at-if1 = at-propagated-entry .before in
+    let at-refusal7 = at-if1 .before in
+    let at-refusal6 = at-refusal7 .before in
+    let at-refusal5 = at-refusal6 .before in
+    let at-refusal4 = at-refusal5 .before in
+    let at-refusal3 = at-refusal4 .before in
+    let at-refusal2 = at-refusal3 .before in
+    let at-refusal = at-refusal2 .before in
+    let at-new-atoms = at-refusal .before .before .before in
+    let at-possible = at-new-atoms .before in
+    let at-gathered = at-possible .before in
+    let at-literals-seen = at-gathered .before in
+    let at-literal-instance = at-literals-seen .before .before .before in
+    let at-literal-named = at-literal-instance .before in
+    let first = at-literal-named .before .before in
+    λ s R looks. told-as (grown-run (at-loop .loop .inv) (lengthened _ _))
+    (propagate-told R (first .args .looked) _ _ _ (first .args .instance) (let g = first .good .1 .1 .1 .1 .0 in search needs) looks _ (at-literal-named .literal-named .ensures) _ (at-literal-instance .literal-instance .ensures) _ (at-literals-seen .literals-seen .ensures) _ (at-gathered .gathered .ensures) (at-possible .possible .result) (at-possible .possible .ensures) _ (at-new-atoms .new-atoms .ensures)
+    (at-refusal .refusal .ensures) (at-refusal2 .refusal2 .ensures) (at-refusal3 .refusal3 .ensures) (at-refusal4 .refusal4 .ensures) (at-refusal5 .refusal5 .ensures) (at-refusal6 .refusal6 .ensures) (at-refusal7 .refusal7 .ensures) (at-if1 .if1 .left) _
+    (grown-all (at-loop .loop .inv) (c .loop-test .left) _ _ (at-new-atoms .new-atoms .ensures) (omega arith) (stored-pushed (kept-small (first .pre .0, first .pre .1) .trail-held) (omega (arith, room (at-if1 .before) (at-if1 .if1 .left))) (at-propagated-entry .propagated-entry .ensures))))
 
 pub propagate-spec : {M : Type 1} → statement M
 propagate-spec =
     tie.close
     (tie.spec
-    refused-requires
-    returns
-    refused-requires-2
-    returns-2
+    Inv-loop
+    μ-loop
     literal-named-requires
     literal-instance-requires
-    undefined-requires
-    naming-refusal-requires
-    refused-requires-3
-    returns-3
-    first-not-false-requires
-    refused-at-requires
-    returns-4
+    cast-m
+    literals-seen-requires
+    gathered-requires
     possible-requires
-    refused-requires-4
-    returns-5
-    append-propagated-requires
-    refused-requires-5
-    returns-6
-    with-trail-requires
-    accepted-requires
-    returns-7)
+    new-atoms-requires
+    cast-n
+    add-refusal
+    refusal-requires
+    refusal-requires-2
+    refusal-requires-3
+    refusal-requires-4
+    refusal-requires-5
+    refusal-requires-6
+    refusal-requires-7
+    refused-at-requires
+    returns
+    propagated-entry-requires
+    mul-t23
+    element-set-from-next
+    loop-holds
+    mul-a
+    element-copy-out-a
+    add-j
+    background-entry-requires
+    add-t38
+    mul-t43
+    element-set-from-next-2
+    loop-less
+    loop-again
+    add-next
+    add-next-2
+    cast-next
+    returns-2)

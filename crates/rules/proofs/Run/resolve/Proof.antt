@@ -1,19 +1,102 @@
-use mathlib.Core.Bool.{true}
+use native.Mathlib.Omega.{arith}
 use Rattle.rules.proofs.Runs.{kept-small}
+use Rattle.rules.proofs.Resolving.{resolve-refused, resolve-told}
+use borrow.Author.Needs.{needs}
 use Rattle.rules.proofs.Run.resolve.Statement.{statement}
 use Rattle.rules.proofs.Run.resolve.Tie as tie
+use Rattle.rules.proofs.Run.resolve.Reads as reads
+use Rattle.rules.proofs.Run.resolve.Lts as lts
+use Rattle.instances.proofs.literal_exists.Reads as literal-exists-reads
+use Rattle.rules.proofs.is_complement.Reads as is-complement-reads
+use Rattle.rules.proofs.is_propagated.Reads as is-propagated-reads
+use Rattle.rules.proofs.last_slot.Reads as last-slot-reads
+use Rattle.rules.proofs.refusal.Reads as refusal-reads
+use Rattle.rules.proofs.refused.Reads as refused-reads
+use Rattle.rules.proofs.resolvent.Reads as resolvent-reads
 
-top-requires : tie.Need-top-requires
-top-requires c κs = kept-small (c .pre .0, c .pre .1) .few-entries
+-- src/lib.rt:535:28
+last-slot-requires : tie.Need-last-slot-requires
+last-slot-requires c κs = search needs
 
-resolve-requires : tie.Need-resolve-requires
-resolve-requires c κs = (c .before .args .self, true, (c .before .pre .0, c .before .pre .1), c .top .ensures)
+-- src/lib.rt:535:17
+mul-e : tie.Need-mul-e
+mul-e c = search needs
 
-after-requires : tie.Need-after-requires
-after-requires c κs = c .resolve .ensures (c .before .before .args .self) true (c .before .before .pre .0, c .before .before .pre .1) (c .before .top .ensures) .fits
+-- src/lib.rt:535:17
+element-copy-out-e : tie.Need-element-copy-out-e
+element-copy-out-e c = omega (arith, c .last-slot .ensures, kept-small (c .before .before .before .pre .0, c .before .before .before .pre .1) .few-entries)
 
+-- src/lib.rt:537:13
+resolvent-requires : tie.Need-resolvent-requires
+resolvent-requires c κs = search needs
+
+-- src/lib.rt:542:17
+literal-exists-requires : tie.Need-literal-exists-requires
+literal-exists-requires c κs = search needs
+
+-- src/lib.rt:548:25
+is-propagated-requires : tie.Need-is-propagated-requires
+is-propagated-requires c κs = search needs
+
+-- src/lib.rt:551:29
+is-complement-requires : tie.Need-is-complement-requires
+is-complement-requires c κs = search needs
+
+-- src/lib.rt:553:29
+refusal-requires : tie.Need-refusal-requires
+refusal-requires c κs = search needs
+
+-- src/lib.rt:550:25
+refusal-requires-2 : tie.Need-refusal-requires-2
+refusal-requires-2 c κs = search needs
+
+-- src/lib.rt:547:21
+refusal-requires-3 : tie.Need-refusal-requires-3
+refusal-requires-3 c κs = search needs
+
+-- src/lib.rt:544:17
+refusal-requires-4 : tie.Need-refusal-requires-4
+refusal-requires-4 c κs = search needs
+
+-- src/lib.rt:541:13
+refusal-requires-5 : tie.Need-refusal-requires-5
+refusal-requires-5 c κs = search needs
+
+-- src/lib.rt:538:13
+refusal-requires-6 : tie.Need-refusal-requires-6
+refusal-requires-6 c κs = search needs
+
+-- src/lib.rt:560:13
+refused-requires : tie.Need-refused-requires
+refused-requires c κs = search needs
+
+-- src/lib.rt:560:13
 returns : tie.Need-returns
-returns c = rw (c .after .ensures) (c .before .resolve .ensures (c .before .before .before .args .self) true (c .before .before .before .pre .0, c .before .before .before .pre .1) (c .before .before .top .ensures) .answers tt)
+returns c = rw (c .refused .ensures) (λ s R looks. resolve-refused R (c .before .before .before .before .before .before .before .before .before .before .before .before .before .before .before .before .before .args .looked) _ looks _ (c .before .before .before .before .before .before .before .before .before .before .before .before .before .before .last-slot .ensures) _ _ _ (c .before .before .before .before .before .before .before .before .before .before .literal-exists .ensures) (c .before .before .before .before .before .before .before .before .before .is-propagated .ensures) (c .before .before .before .before .before .before .before .before .is-complement .ensures) _ (c .before .before .before .before .before .before .before .before .before .before .before .resolvent .ensures)
+    (c .before .before .before .before .before .before .before .refusal .ensures) (c .before .before .before .before .before .before .refusal2 .ensures) (c .before .before .before .before .before .refusal3 .ensures) (c .before .before .before .before .refusal4 .ensures) (c .before .before .before .refusal5 .ensures) (c .before .before .refusal6 .ensures) (c .before .if1 .taken))
+
+-- src/lib.rt:529:5
+returns-2 : tie.Need-returns-2
+returns-2 c = λ s R looks. resolve-told R (c .before .before .before .before .before .before .before .before .before .before .before .before .before .before .before .before .before .args .looked) _ looks _ (c .before .before .before .before .before .before .before .before .before .before .before .before .before .before .last-slot .ensures) _ _ _ (c .before .before .before .before .before .before .before .before .before .before .literal-exists .ensures) (c .before .before .before .before .before .before .before .before .before .is-propagated .ensures) (c .before .before .before .before .before .before .before .before .is-complement .ensures) _ (c .before .before .before .before .before .before .before .before .before .before .before .resolvent .ensures)
+    (c .before .before .before .before .before .before .before .refusal .ensures) (c .before .before .before .before .before .before .refusal2 .ensures) (c .before .before .before .before .before .refusal3 .ensures) (c .before .before .before .before .refusal4 .ensures) (c .before .before .before .refusal5 .ensures) (c .before .before .refusal6 .ensures) (c .before .if1 .left)
 
 pub resolve-spec : {M : Type 1} → statement M
-resolve-spec = tie.close (tie.spec top-requires resolve-requires after-requires returns)
+resolve-spec =
+    tie.close
+    (tie.spec
+    last-slot-requires
+    mul-e
+    element-copy-out-e
+    resolvent-requires
+    literal-exists-requires
+    is-propagated-requires
+    is-complement-requires
+    refusal-requires
+    refusal-requires-2
+    refusal-requires-3
+    refusal-requires-4
+    refusal-requires-5
+    refusal-requires-6
+    refused-requires
+    returns
+    returns-2)

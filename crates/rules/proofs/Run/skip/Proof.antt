@@ -1,19 +1,96 @@
-use mathlib.Core.Bool.{true}
+use native.Mathlib.Omega.{arith}
+use mathlib.Core.Path.{sym, _∙_}
 use Rattle.rules.proofs.Runs.{kept-small}
+use Rattle.rules.proofs.Simple.{skip-refused, skip-passed, skip-accepted}
+use borrow.Author.Needs.{needs}
 use Rattle.rules.proofs.Run.skip.Statement.{statement}
 use Rattle.rules.proofs.Run.skip.Tie as tie
+use Rattle.rules.proofs.Run.skip.Reads as reads
+use Rattle.rules.proofs.Run.skip.Lts as lts
+use Rattle.rules.proofs.in_conflict.Reads as in-conflict-reads
+use Rattle.rules.proofs.last_slot.Reads as last-slot-reads
+use Rattle.rules.proofs.level_after.Reads as level-after-reads
+use Rattle.rules.proofs.refusal.Reads as refusal-reads
+use Rattle.rules.proofs.refused.Reads as refused-reads
+use Rattle.trail.proofs.blank_entry.Reads as blank-entry-reads
 
-top-requires : tie.Need-top-requires
-top-requires c κs = kept-small (c .pre) .few-entries
+-- src/lib.rt:606:13
+last-slot-requires : tie.Need-last-slot-requires
+last-slot-requires c κs = search needs
 
-skip-requires : tie.Need-skip-requires
-skip-requires c κs = (c .before .args .self, true, c .before .pre, c .top .ensures)
+-- src/lib.rt:607:17
+mul-e : tie.Need-mul-e
+mul-e c = omega (arith, c .last-slot .ensures, kept-small (c .before .pre) .few-entries)
 
-after-requires : tie.Need-after-requires
-after-requires c κs = c .skip .ensures (c .before .before .args .self .conflict .clause) (c .before .before .args .self) true (c .before .before .pre) (c .before .top .ensures) .fits
+-- src/lib.rt:607:17
+element-copy-out-e : tie.Need-element-copy-out-e
+element-copy-out-e c = omega (arith, c .last-slot .ensures, kept-small (c .before .pre) .few-entries)
 
+-- src/lib.rt:615:26
+in-conflict-requires : tie.Need-in-conflict-requires
+in-conflict-requires c κs = search needs
+
+-- src/lib.rt:615:17
+refusal-requires : tie.Need-refusal-requires
+refusal-requires c κs = search needs
+
+-- src/lib.rt:612:13
+refusal-requires-2 : tie.Need-refusal-requires-2
+refusal-requires-2 c κs = search needs
+
+-- src/lib.rt:609:13
+refusal-requires-3 : tie.Need-refusal-requires-3
+refusal-requires-3 c κs = search needs
+
+-- src/lib.rt:619:13
+refused-requires : tie.Need-refused-requires
+refused-requires c κs = search needs
+
+-- src/lib.rt:619:13
 returns : tie.Need-returns
-returns c = rw (c .after .ensures) (λ s R. c .before .skip .ensures (c .before .before .before .args .self .conflict .clause) (c .before .before .before .args .self) true (c .before .before .before .pre) (c .before .before .top .ensures) .answers tt s R tt)
+returns c = rw (c .refused .ensures) (λ s R. skip-refused R _ (c .before .before .before .before .before .before .before .before .last-slot .ensures) _ (c .before .before .before .before .before .in-conflict .ensures) (c .before .before .before .before .refusal .ensures) (c .before .before .before .refusal2 .ensures) (c .before .before .refusal3 .ensures) (c .before .if1 .taken))
+
+-- src/lib.rt:621:22
+level-after-requires : tie.Need-level-after-requires
+level-after-requires c κs = search needs
+
+-- src/lib.rt:622:23
+cast-self : tie.Need-cast-self
+cast-self c = omega (arith, c .before .before .before .before .before .before .before .before .last-slot .ensures, kept-small (c .before .before .before .before .before .before .before .before .before .pre) .few-entries)
+
+-- src/lib.rt:623:25
+blank-entry-requires : tie.Need-blank-entry-requires
+blank-entry-requires c κs = search needs
+
+-- src/lib.rt:623:9
+mul-t8 : tie.Need-mul-t8
+mul-t8 c = omega (arith, c .before .before .before .before .before .before .before .before .before .last-slot .ensures, kept-small (c .before .before .before .before .before .before .before .before .before .before .pre) .few-entries)
+
+-- src/lib.rt:623:9
+element-set-from-self : tie.Need-element-set-from-self
+element-set-from-self c = omega (arith, c .before .before .before .before .before .before .before .before .before .last-slot .ensures, kept-small (c .before .before .before .before .before .before .before .before .before .before .pre) .few-entries)
+
+-- src/lib.rt:602:5
+returns-2 : tie.Need-returns-2
+returns-2 c = λ s R. let h = skip-passed R _ (c .before .before .before .before .before .before .before .before .before .last-slot .ensures) _ (c .before .before .before .before .before .before .in-conflict .ensures) (c .before .before .before .before .before .refusal .ensures) (c .before .before .before .before .refusal2 .ensures) (c .before .before .before .refusal3 .ensures) (c .before .before .if1 .left) in
+    skip-accepted R (h .0) (h .1) _ (c .before .before .before .before .before .before .before .before .before .last-slot .ensures) (h .2) _ (c .before .level-after .ensures) _ (c .blank-entry .ensures)
 
 pub skip-spec : {M : Type 1} → statement M
-skip-spec = tie.close (tie.spec top-requires skip-requires after-requires returns)
+skip-spec =
+    tie.close
+    (tie.spec
+    last-slot-requires
+    mul-e
+    element-copy-out-e
+    in-conflict-requires
+    refusal-requires
+    refusal-requires-2
+    refusal-requires-3
+    refused-requires
+    returns
+    level-after-requires
+    cast-self
+    blank-entry-requires
+    mul-t8
+    element-set-from-self
+    returns-2)

@@ -1,0 +1,55 @@
+-- What is asked in rising order: the first number that is given, and that all is passed where it is 0.
+use mathlib.Core.Path.{_∙_, _≡_, ap, refl, subst, sym}
+use mathlib.Core.Bool.{Bool, _&&_, cond, false, not, true}
+use Prim.Native.Nat.{ℕ, _<_, _≤_}
+use native.Mathlib.Omega.{arith}
+use lib.Dec.{T, eqb}
+use Rattle.rules.specs.Answers.{Told}
+use Rattle.basis.specs.Refusals.{notFalse}
+use Rattle.lists.proofs.Tests.{F→eq}
+use Rattle.rules.specs.Records.{refusedAt, refusedBy}
+use Rattle.rules.specs.declared.Run.{Run}
+use Rattle.calculus.specs.States.{State, Step}
+
+-- It is not so, and its number is given, or it is so, and the rest tells.
+pub asked : {Q : Type 0} {n : ℕ} (ok : Bool) (x rest : ℕ) → n ≡ cond ok rest x → (ok ≡ false → n ≡ x → Q) → (ok ≡ true → n ≡ rest → Q) → Q
+asked true x rest e f g = g refl e
+asked false x rest e f g = f refl e
+
+pub passed : {n : ℕ} (ok : Bool) (x rest : ℕ) → n ≡ cond ok rest x → T (not (eqb x 0)) → n ≡ 0 → (ok ≡ true) × (rest ≡ 0)
+passed true x rest e h z = (refl, sym e ∙ z)
+passed false x rest e h z = absurd (subst (λ (m : ℕ). T (not (eqb m 0))) (sym e ∙ z) h)
+
+-- The same refusal
+pub as-told : {s : State} {x : Step} {r : Run} {n m : ℕ} → n ≡ m → Told s x (refusedBy r m) → Told s x (refusedBy r n)
+as-told {s} {x} {r} e = subst (λ (k : ℕ). Told s x (refusedBy r k)) (sym e)
+
+-- Of two tests the second, where the first holds
+pub and-so : {a q : Bool} (b c : Bool) → b ≡ true → a ≡ (b && c) → a ≡ q → c ≡ q
+and-so b c t e f = sym (ap (λ (d : Bool). d && c) t) ∙ sym e ∙ f
+
+-- .. also by 12, which names a literal
+abbrev At : State → Step → Run → ℕ → ℕ → Type 0
+At s x r p n = Told s x (cond (eqb n notFalse) (refusedAt r p) (refusedBy r n))
+
+pub other-told : {s : State} {x : Step} {r : Run} {n m : ℕ} (p : ℕ) → n ≡ m → T (not (eqb m notFalse)) → Told s x (refusedBy r m) → Told s x (cond (eqb n notFalse) (refusedAt r p) (refusedBy r n))
+other-told {s} {x} {r} {m = m} p e h t = subst (At s x r p) (sym e) (subst (λ (b : Bool). Told s x (cond b (refusedAt r p) (refusedBy r m))) (sym (F→eq (eqb m notFalse) h)) t)
+
+pub place-told : {s : State} {x : Step} {r : Run} {n : ℕ} (p : ℕ) → n ≡ notFalse → Told s x (refusedAt r p) → Told s x (cond (eqb n notFalse) (refusedAt r p) (refusedBy r n))
+place-told {s} {x} {r} p e t = subst (At s x r p) (sym e) t
+
+-- A number that is none, and one that is some
+pub none : (p : ℕ) → p ≡ 0 → p ≤ 0
+none p e = omega arith
+
+pub positive : (p : ℕ) → ¬ (p ≡ 0) → 0 < p
+positive p e = omega arith
+
+-- A literal that does not exist, whatever else is asked
+pub no-literal : (a b c : Bool) {l : Bool} → l ≡ false → false ≡ (a && (b && (l && c)))
+no-literal a b c e = sym (ap (λ (l : Bool). a && (b && (l && c))) e ∙ both a b)
+  where
+    both : (a b : Bool) → (a && (b && false)) ≡ false
+    both true true = refl
+    both true false = refl
+    both false b = refl

@@ -1,0 +1,18 @@
+use Rattle.rules.proofs.Steps.{unknown-answered}
+use borrow.Author.Needs.{needs}
+use Rattle.rules.proofs.Run.unknown.Statement.{statement}
+use Rattle.rules.proofs.Run.unknown.Tie as tie
+use Rattle.rules.proofs.Run.unknown.Reads as reads
+use Rattle.rules.proofs.Run.unknown.Lts as lts
+use Rattle.rules.proofs.refused.Reads as refused-reads
+
+-- src/lib.rt:741:9
+refused-requires : tie.Need-refused-requires
+refused-requires c κs = search needs
+
+-- src/lib.rt:737:5
+returns : tie.Need-returns
+returns c = rw (c .refused .ensures) (unknown-answered _ _)
+
+pub unknown-spec : {M : Type 1} → statement M
+unknown-spec = tie.close (tie.spec refused-requires returns)

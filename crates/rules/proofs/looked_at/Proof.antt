@@ -1,0 +1,26 @@
+use borrow.Author.Tests.{le-leb, lt-leb}
+use borrow.Author.Needs.{needs}
+use Rattle.rules.proofs.looked_at.Statement.{statement}
+use Rattle.rules.proofs.looked_at.Tie as tie
+use Rattle.rules.proofs.looked_at.Reads as reads
+use Rattle.rules.proofs.looked_at.Lts as lts
+use Rattle.clauses.proofs.no_clause.Reads as no-clause-reads
+
+-- src/lib.rt:321:9
+no-clause-requires : tie.Need-no-clause-requires
+no-clause-requires c κs = search needs
+
+-- src/lib.rt:323:9
+returns : tie.Need-returns
+returns c = simp (lt-leb 1 _ (c .if1 .taken), c .before .no-clause .ensures)
+
+-- src/lib.rt:326:9
+returns-2 : tie.Need-returns-2
+returns-2 c = simp (le-leb 1 _ (c .before .if1 .left), lt-leb _ 96 (c .if2 .taken), c .before .before .no-clause .ensures)
+
+-- src/lib.rt:318:1
+returns-3 : tie.Need-returns-3
+returns-3 c = simp (le-leb 1 _ (c .before .if1 .left), le-leb _ 96 (c .if2 .left))
+
+pub looked-at-spec : {M : Type 1} → statement M
+looked-at-spec = tie.close (tie.spec no-clause-requires returns returns-2 returns-3)
