@@ -1,5 +1,6 @@
-//! Cases of merging, and of admission and steps offered without a file, read from text: those of
-//! `crates/rule_cases`.
+//! Cases that are read from text. Those of `cases/runs.txt` are runs that a file can say: they are turned into
+//! run files, packed for `crates/file_cases`. Those of `cases/records.txt` are merging, admission and steps
+//! offered without a file: `crates/rule_cases` has the same in its code.
 //!
 //! A case is a name, a number that says what is done, and what it is done to. 0 and 9 are a run: the
 //! numbers of constants, predicates and clauses, the arities, the clauses, each as often as the number
@@ -12,8 +13,9 @@
 
 use crate::admission::{admit, ClauseRecord, LiteralRecord, StepRecord};
 use crate::clause::{Atom, Clause, Closure, Literal};
+use crate::file::{write, RunFile};
 use crate::limits;
-use crate::listing::{conflict_text, final_state};
+use crate::listing::{self, conflict_text, final_state, inspection};
 use crate::refusal::Refusal;
 use crate::rules::{factor, resolvent};
 use crate::state::{Origin, State};
@@ -50,14 +52,70 @@ fn answer(case: &str) -> String {
     format!("{name} {text}")
 }
 
+/// A run file with a name.
+pub struct NamedFile {
+    pub name: String,
+    pub bytes: Vec<u8>,
+}
+
+/// The runs as files: the run itself, or for each of its steps the steps accepted before it and then the step.
+pub fn run_files(text: &[u8]) -> Vec<NamedFile> {
+    cases(&String::from_utf8_lossy(text)).iter().flat_map(|case| files_of(case)).collect()
+}
+
+fn files_of(case: &str) -> Vec<NamedFile> {
+    let (name, rest) = case.split_once(' ').unwrap_or((case, ""));
+    let mut words = Words::of(rest);
+    let each = words.byte() == 0;
+    let table = words.table();
+    let mut file = table.file();
+    let mut files = Vec::new();
+    let mut state = table.admitted();
+    while !words.at_end() {
+        let step = words.step().step().expect("a step that a file can say");
+        file.steps.push(step.clone());
+        let name = format!("{name}/{}", files.len() + 1);
+        files.push(NamedFile { name, bytes: write(&file).bytes });
+        if each && state.as_mut().is_ok_and(|state| state.take(&step).is_err()) {
+            file.steps.pop();
+        }
+    }
+    if each {
+        files
+    } else {
+        vec![NamedFile { name: name.to_string(), bytes: write(&file).bytes }]
+    }
+}
+
+/// Files one after the other: the length of a name in a byte, the name, the length of the file in two bytes,
+/// and the file.
+pub fn packed(files: &[NamedFile]) -> Vec<u8> {
+    let mut bytes = Vec::new();
+    for file in files {
+        bytes.push(file.name.len() as u8);
+        bytes.extend(file.name.as_bytes());
+        bytes.extend((file.bytes.len() as u16).to_le_bytes());
+        bytes.extend(&file.bytes);
+    }
+    bytes
+}
+
+/// What files come to: of each its name, the number and place of the last answer, the listing and the final
+/// state.
+pub fn inspections(files: &[NamedFile]) -> String {
+    let told = |file: &NamedFile| {
+        let answer = listing::run(&file.bytes)
+            .map_err(|bad| bad.refusal)
+            .and_then(|run| run.tried.last().map_or(Ok(()), |tried| tried.answer.map(|_| ())));
+        format!("{} {}\n{}", file.name, numbers(&answer), inspection(&file.bytes))
+    };
+    files.iter().map(told).collect()
+}
+
 /// Admission's answer, and after every step a line with its answer; the state after each step, or else at
 /// the end.
 fn run(words: &mut Words, each: bool) -> String {
-    let (constants, predicates, count) = (words.byte(), words.byte(), words.byte());
-    let arities = filled(&words.bytes(), 0);
-    let mut clauses = words.clauses();
-    clauses.resize(count.into(), ClauseRecord::blank());
-    let opened = admit(constants, predicates, &arities, &clauses);
+    let opened = words.table().admitted();
     let mut text = format!("{}\n", numbers(&opened));
     // A refused file yields no state: the steps then meet that of no clauses.
     let mut state = opened.unwrap_or(State::first(0, Vec::new(), Vec::new()));
@@ -228,12 +286,7 @@ impl Words {
     /// The clause that a record says, with its instance. None where a count is above its limit.
     fn closure(&mut self) -> Option<Closure> {
         let (record, instance) = self.given();
-        let literals = record.literals.get(..record.literal_count.into())?;
-        let clause = Clause {
-            variables: record.variables,
-            atoms: record.atoms.get(..record.atom_count.into())?.to_vec(),
-            literals: literals.iter().map(LiteralRecord::literal).collect(),
-        };
+        let clause = record.clause()?;
         clause.within_limits().then_some(Closure { clause, instance })
     }
 
@@ -248,6 +301,14 @@ impl Words {
             vec![words.given().0; times]
         });
         repeated.concat()
+    }
+
+    fn table(&mut self) -> Table {
+        let (constants, predicates, count) = (self.byte(), self.byte(), self.byte());
+        let arities = filled(&self.bytes(), 0);
+        let mut clauses = self.clauses();
+        clauses.resize(count.into(), ClauseRecord::blank());
+        Table { constants, predicates, arities, clauses }
     }
 
     fn step(&mut self) -> StepRecord {
@@ -271,7 +332,40 @@ impl Closure {
     }
 }
 
+/// What a run starts from, as offered.
+struct Table {
+    constants: u8,
+    predicates: u8,
+    arities: [u8; limits::PREDICATES],
+    clauses: Vec<ClauseRecord>,
+}
+
+impl Table {
+    fn admitted(&self) -> Result<State, Refusal> {
+        admit(self.constants, self.predicates, &self.arities, &self.clauses)
+    }
+
+    /// The file that says the same, with no steps yet.
+    fn file(&self) -> RunFile {
+        let mut arities = self.arities.to_vec();
+        arities.resize(self.predicates.into(), 0);
+        let clause = |record: &ClauseRecord| record.clause().expect("a clause that a file can say");
+        let clauses = self.clauses.iter().map(clause).collect();
+        RunFile { constants: self.constants, arities, clauses, steps: Vec::new() }
+    }
+}
+
 impl ClauseRecord {
+    /// The clause that a record says. None where it has not so many atoms or literals.
+    fn clause(&self) -> Option<Clause> {
+        let literals = self.literals.get(..self.literal_count.into())?;
+        Some(Clause {
+            variables: self.variables,
+            atoms: self.atoms.get(..self.atom_count.into())?.to_vec(),
+            literals: literals.iter().map(LiteralRecord::literal).collect(),
+        })
+    }
+
     fn blank() -> ClauseRecord {
         let literal = LiteralRecord { sign: 0, predicate: 0, arguments: [0; limits::ARITY] };
         ClauseRecord {

@@ -298,8 +298,10 @@ impl Written {
         for literal in &clause.literals {
             self.byte(Field::Sign, literal.positive.into());
             self.byte(Field::Predicate, literal.predicate);
-            let arity = arities[literal.predicate as usize - 1] as usize;
-            for &argument in &literal.arguments[..arity] {
+            // A predicate that there is not has no arguments.
+            let index = (literal.predicate as usize).wrapping_sub(1);
+            let arity = arities.get(index).copied().unwrap_or(0);
+            for &argument in &literal.arguments[..arity.into()] {
                 self.byte(Field::Argument, argument);
             }
         }

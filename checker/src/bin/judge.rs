@@ -1,7 +1,8 @@
 //! `check`: reads a run file from standard input and prints the listing; with the word `inspect` the
-//! listing and then the final state. With the word `cases` it reads cases and prints what they come to.
+//! listing and then the final state. With the word `records` or `runs` it reads cases of that kind and prints
+//! what they come to; with `pack` it reads runs and prints them as files.
 
-use checker::cases::answers;
+use checker::cases::{answers, inspections, packed, run_files};
 use checker::limits;
 use checker::listing::{inspection, listing};
 use std::io::{self, Read, Write};
@@ -10,12 +11,14 @@ use std::process::ExitCode;
 fn main() -> ExitCode {
     let words: Vec<String> = std::env::args().skip(1).collect();
     let words: Vec<&str> = words.iter().map(String::as_str).collect();
-    let print = match words[..] {
-        [] => listing,
-        ["inspect"] => inspection,
-        ["cases"] => answers,
+    let print: fn(&[u8]) -> Vec<u8> = match words[..] {
+        [] => |bytes| listing(bytes).into(),
+        ["inspect"] => |bytes| inspection(bytes).into(),
+        ["records"] => |text| answers(text).into(),
+        ["runs"] => |text| inspections(&run_files(text)).into(),
+        ["pack"] => |text| packed(&run_files(text)),
         _ => {
-            eprintln!("usage: check [inspect | cases] < file");
+            eprintln!("usage: check [inspect | records | runs | pack] < file");
             return ExitCode::FAILURE;
         }
     };
@@ -28,9 +31,9 @@ fn main() -> ExitCode {
     }
 }
 
-fn judge(print: fn(&[u8]) -> String) -> io::Result<()> {
+fn judge(print: fn(&[u8]) -> Vec<u8>) -> io::Result<()> {
     let mut bytes = Vec::new();
     // "A valid file is below 65,536 bytes; the program reads no more."
     io::stdin().lock().take(limits::FILE_BYTES as u64).read_to_end(&mut bytes)?;
-    io::stdout().lock().write_all(print(&bytes).as_bytes())
+    io::stdout().lock().write_all(&print(&bytes))
 }

@@ -1,10 +1,14 @@
-// Judges damaged copies of a run file, and then whole files. The first argument names the file that is damaged, the others the whole files.
+// Judges damaged copies of a run file, then packed files, and then whole files. The first argument names the file that is damaged, the second
+// that of the packed files, the others the whole files.
 // Standard input has a damage to a line: how many bytes are kept (zeros follow where that is more than the file has), and then places and
-// what is put there. A line that starts with # is passed over. Standard output has each line, or the file's name, and its listing.
+// what is put there. A line that starts with # is passed over. Standard output has each line, or the file's name, and its listing; of a packed
+// file besides the number and place of the last answer, and the final state.
+// Packed files stand one after the other: the length of a name in a byte, the name, the length of the file in two bytes, and the file.
 ghost use mathlib.Core.Path.{_≡_};
 ghost use Prim.Native.Nat.{_≤_, _<_};
 ghost use lib.ListN.{length};
 ghost use Rattle.io.specs.Counts.{Counts};
+use judging::MOST_INSPECTION;
 use judging::MOST_LISTING;
 use judging::Written;
 use libc::STDIN_FILENO;
@@ -166,6 +170,79 @@ fn print_all_damaged(copy: [u8; COPY], s: &[u8]) {
     }
 }
 
+// ---- packed files
+
+fn inspection_buffer() -> [u8; MOST_INSPECTION]
+    ensures { λ r. ⌜ 136078 ≡ length r ⌝ }
+{
+    [0; MOST_INSPECTION]
+}
+
+// " number place" and the end of the line
+fn print_answer(number: u8, place: usize) {
+    print(b" ");
+    io::print_decimal(STDOUT_FILENO, number as u64);
+    print(b" ");
+    io::print_decimal(STDOUT_FILENO, place as u64);
+    print(b"\n");
+}
+
+fn print_inspection(file: &[u8]) {
+    let mut out = inspection_buffer();
+    let answer = judging::inspect(file, &mut out);
+    match answer {
+        Written::Bytes {
+            count,
+            number,
+            place,
+        } => {
+            print_answer(number, place);
+            let n = within(count, &out);
+            print(&out[..n]);
+        }
+        Written::Short => {
+            print(b" short\n");
+        }
+    }
+}
+
+// What stands at a place, or 0 past the end
+fn byte(s: &[u8], at: usize) -> u8 {
+    if at < s.len() { s[at] } else { 0 }
+}
+
+// The place so many bytes on, or the end
+fn onward(s: &[u8], at: usize, n: usize) -> usize
+    requires { ⌜ at ≤ length (now s) ⌝ }
+    ensures { λ r. ⌜ (at ≤ r) × (r ≤ length (now (s .entry))) ⌝ }
+{
+    if n < s.len() - at { at + n } else { s.len() }
+}
+
+// The file packed at a place: the place after it
+fn print_packed(s: &[u8], at: usize) -> usize
+    requires { ⌜ at < length (now s) ⌝ }
+    ensures { λ r. ⌜ (at < r) × (r ≤ length (now (s .entry))) ⌝ }
+{
+    let name = at + 1;
+    let low = onward(s, name, byte(s, at) as usize);
+    print(&s[name..low]);
+    let high = onward(s, low, 1);
+    let file = onward(s, high, 1);
+    let n = byte(s, low) as usize + 256 * (byte(s, high) as usize);
+    let end = onward(s, file, n);
+    print_inspection(&s[file..end]);
+    end
+}
+
+fn print_all_packed(s: &[u8]) {
+    let mut at: usize = 0;
+    while at < s.len() {
+        let next = print_packed(s, at);
+        at = next;
+    }
+}
+
 // ---- files
 
 fn read_argument(k: usize, file: &mut [u8]) -> usize
@@ -199,8 +276,11 @@ fn main() {
     let mut text = io::large_buffer();
     let n = io::read_full(STDIN_FILENO, &mut text);
     print_all_damaged(copy, &text[..n]);
+    let mut packed = file_buffer();
+    let length = read_argument(2, &mut packed);
+    print_all_packed(&packed[..length]);
     let count = os::arg_count();
-    let mut k: usize = 2;
+    let mut k: usize = 3;
     while k < count {
         print_file(k);
         k += 1;

@@ -5,10 +5,10 @@ use Rattle.file_cases.proofs.main.Statement.{statement}
 use Rattle.file_cases.proofs.main.Tie as tie
 
 abbrev Inv-loop : tie.InvT-loop
-Inv-loop n count k₀ k = k ≤ k
+Inv-loop n length count k₀ k = k ≤ k
 
 abbrev μ-loop : tie.MeasureT-loop
-μ-loop n count k₀ k = count - k
+μ-loop n length count k₀ k = count - k
 
 slice-aggregate-read-argument : tie.Need-slice-aggregate-read-argument Inv-loop μ-loop
 slice-aggregate-read-argument c = search needs
@@ -33,6 +33,24 @@ slice-aggregate-print-all-damaged c = search needs
 
 print-all-damaged-requires : tie.Need-print-all-damaged-requires Inv-loop μ-loop
 print-all-damaged-requires c κs = search needs
+
+file-buffer-requires : tie.Need-file-buffer-requires Inv-loop μ-loop
+file-buffer-requires c κs = search needs
+
+slice-aggregate-read-argument-2 : tie.Need-slice-aggregate-read-argument-2 Inv-loop μ-loop
+slice-aggregate-read-argument-2 c = search needs
+
+read-argument-requires-2 : tie.Need-read-argument-requires-2 Inv-loop μ-loop
+read-argument-requires-2 c κs = search needs
+
+array-share-prefix-packed : tie.Need-array-share-prefix-packed Inv-loop μ-loop
+array-share-prefix-packed c = search needs
+
+slice-aggregate-print-all-packed : tie.Need-slice-aggregate-print-all-packed Inv-loop μ-loop
+slice-aggregate-print-all-packed c = search needs
+
+print-all-packed-requires : tie.Need-print-all-packed-requires Inv-loop μ-loop
+print-all-packed-requires c κs = search needs
 
 arg-count-requires : tie.Need-arg-count-requires Inv-loop μ-loop
 arg-count-requires c κs = search needs
@@ -69,6 +87,12 @@ main-spec =
     array-share-prefix-text
     slice-aggregate-print-all-damaged
     print-all-damaged-requires
+    file-buffer-requires
+    slice-aggregate-read-argument-2
+    read-argument-requires-2
+    array-share-prefix-packed
+    slice-aggregate-print-all-packed
+    print-all-packed-requires
     arg-count-requires
     loop-holds
     print-file-requires

@@ -3,7 +3,7 @@ use mathlib.Core.Path.{sym}
 use native.Mathlib.Omega.{arith}
 use lib.Seq.{length-take-le}
 use borrow.Author.Needs.{needs}
-use Rattle.inspection.proofs.States.{kept-of, shown-room}
+use Rattle.inspection.proofs.States.{beside-of, shown-room}
 use Rattle.rule_cases.proofs.print_state.Statement.{statement}
 use Rattle.rule_cases.proofs.print_state.Tie as tie
 
@@ -20,13 +20,13 @@ slice-aggregate-put-state : tie.Need-slice-aggregate-put-state
 slice-aggregate-put-state c = search needs
 
 put-state-requires : tie.Need-put-state-requires
-put-state-requires c κs = (search needs, kept-of (c .before .before .before .run .ensures) (c .before .before .table .ensures) (c .before .before .before .before .pre))
+put-state-requires c κs = (search needs, beside-of (c .before .before .before .run .ensures) (c .before .before .table .ensures) (c .before .before .before .before .pre))
 
 array-share-prefix-out : tie.Need-array-share-prefix-out
-array-share-prefix-out c = omega (arith, shown-room (kept-of (c .before .before .before .before .before .run .ensures) (c .before .before .before .before .table .ensures) (c .before .before .before .before .before .before .pre)) (c .before .put-state .ensures))
+array-share-prefix-out c = omega (arith, shown-room (beside-of (c .before .before .before .before .before .run .ensures) (c .before .before .before .before .table .ensures) (c .before .before .before .before .before .before .pre)) (c .before .put-state .ensures))
 
 slice-aggregate-write : tie.Need-slice-aggregate-write
-slice-aggregate-write c = sym (length-take-le (c .before .before .put-state .result) (c .before .before .put-state .last .0) (omega (arith, shown-room (kept-of (c .before .before .before .before .before .before .run .ensures) (c .before .before .before .before .before .table .ensures) (c .before .before .before .before .before .before .before .pre)) (c .before .before .put-state .ensures))))
+slice-aggregate-write c = sym (length-take-le (c .before .before .put-state .result) (c .before .before .put-state .last .0) (omega (arith, shown-room (beside-of (c .before .before .before .before .before .before .run .ensures) (c .before .before .before .before .before .table .ensures) (c .before .before .before .before .before .before .before .pre)) (c .before .before .put-state .ensures))))
 
 write-requires : tie.Need-write-requires
 write-requires c κs = search needs

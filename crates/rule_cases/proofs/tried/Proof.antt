@@ -16,8 +16,8 @@ write-requires c κs = search needs
 print-answer-requires : tie.Need-print-answer-requires
 print-answer-requires c κs = search needs
 
-print-if-requires : tie.Need-print-if-requires
-print-if-requires c κs = step-keeps (c .before .before .before .before .before .args .state) (c .before .before .before .before .before .args .x) (c .before .before .before .before .step .result) (c .before .before .before .before .before .pre) (c .before .before .before .before .step .ensures)
+print-state-requires : tie.Need-print-state-requires
+print-state-requires c κs = step-keeps (c .before .before .before .before .before .args .state) (c .before .before .before .before .before .args .x) (c .before .before .before .before .step .result) (c .before .before .before .before .before .pre) (c .before .before .before .before .step .ensures)
 
 returns : tie.Need-returns
 returns c = step-keeps (c .before .before .before .before .before .before .args .state) (c .before .before .before .before .before .before .args .x) (c .before .before .before .before .before .step .result) (c .before .before .before .before .before .before .pre) (c .before .before .before .before .before .step .ensures)
@@ -30,5 +30,5 @@ tried-spec =
     slice-aggregate-write
     write-requires
     print-answer-requires
-    print-if-requires
+    print-state-requires
     returns)
