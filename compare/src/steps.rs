@@ -1,4 +1,7 @@
-//! Run files with a few steps of one rule near a trail of some length, beside the same files without them.
+//! Run files with steps of one rule near a trail of some length, beside files without them that are the same but for them.
+//!
+//! A trail climbs to its length cheaply, by decisions or by a few propagations of clauses with 24 atoms, so that the steps asked for are a good
+//! part of the file's time. Of Conflict and Backtrack there is one: a conflict stands until a Backtrack ends it, so no two files differ by more.
 
 use checker::clause::{Atom, Clause, Literal};
 use checker::file::{write, RunFile};
@@ -6,110 +9,272 @@ use checker::step::Step;
 
 /// Steps of one rule: the file without them, the file with them, and how many they are.
 pub struct Near {
-    pub rule: &'static str,
-    pub entries: usize,
+    pub name: String,
     pub without: Vec<u8>,
     pub with: Vec<u8>,
     pub count: usize,
 }
 
-/// x ≤ c ∥ P(x), one for each of eight predicates; then ¬P1(x); ¬P8(x1) ∨ .. ∨ ¬P8(x8); and P8(x).
-fn clauses() -> Vec<Clause> {
-    let literal = |positive, predicate, x| Literal { positive, predicate, arguments: [x, 0, 0] };
-    let bounded = |predicate: u8| Clause {
-        variables: 1,
-        atoms: vec![Atom { p: 1, q: 0, c: 1_000 + predicate as i32 }],
-        literals: vec![literal(true, predicate, 1)],
-    };
-    let free = |variables, literals| Clause { variables, atoms: vec![], literals };
-    let denied = free(1, vec![literal(false, 1, 1)]);
-    let denied_often = free(8, (1..=8).map(|x| literal(false, 8, x)).collect());
-    let given = free(1, vec![literal(true, 8, 1)]);
-    (1..=8).map(bounded).chain([denied, denied_often, given]).collect()
+/// What the atoms of a trail are.
+#[derive(Clone, Copy, PartialEq)]
+enum Atoms {
+    Bounds,
+    Differences,
 }
 
-/// The kth of 128 literals: its clause and its constant.
-fn named(k: usize) -> (u8, Vec<u8>) {
-    ((k / 16) as u8 + 1, vec![(k % 16) as u8 + 1])
+/// P1 to P7 have three arguments, P8 has one.
+const ARITIES: [u8; 8] = [3, 3, 3, 3, 3, 3, 3, 1];
+/// Bounds and differences from here on hold of small numbers.
+const FAR: i32 = 1_000;
+
+/// A file that is made: its clauses, its steps and how many constants it has.
+#[derive(Clone)]
+struct Draft {
+    constants: u8,
+    clauses: Vec<Clause>,
+    steps: Vec<Step>,
+    /// Atoms so far; each has a c of its own.
+    atoms: i32,
 }
 
-/// One entry
-fn decide(k: usize) -> Step {
-    let (clause, instance) = named(k);
+/// A literal of the variables from x on
+fn literal(positive: bool, predicate: u8, x: u8) -> Literal {
+    let arguments =
+        if ARITIES[predicate as usize - 1] == 1 { [x, 0, 0] } else { [x, x + 1, x + 2] };
+    Literal { positive, predicate, arguments }
+}
+
+fn decide(clause: u8, instance: Vec<u8>) -> Step {
     Step::Decide { clause, literal: 1, positive: true, instance }
 }
 
-/// Two entries: the literal and its atom.
-fn propagate(k: usize) -> Step {
-    let (clause, instance) = named(k);
+fn propagate(clause: u8, instance: Vec<u8>) -> Step {
     Step::Propagate { clause, literal: 1, instance }
 }
 
-/// The kth of 80 literals over ten constants, among the 128
-fn few(k: usize) -> usize {
-    k / 10 * 16 + k % 10
+fn conflict(clause: u8, instance: Vec<u8>) -> Step {
+    Step::Conflict { clause, instance }
 }
 
-/// So many entries over ten constants: decisions, or propagations where there are not literals enough.
-fn trail_of_few(entries: usize) -> Vec<Step> {
-    if entries <= 80 {
-        (0..entries).map(|k| decide(few(k))).collect()
-    } else {
-        (0..entries / 2).map(|k| propagate(few(k))).collect()
+impl Draft {
+    fn new(constants: u8) -> Draft {
+        Draft { constants, clauses: Vec::new(), steps: Vec::new(), atoms: 0 }
+    }
+
+    /// The number of a clause that is added
+    fn clause(&mut self, variables: u8, atoms: Vec<Atom>, literals: Vec<Literal>) -> u8 {
+        self.clauses.push(Clause { variables, atoms, literals });
+        self.clauses.len() as u8
+    }
+
+    fn atom(&mut self, p: u8, q: u8) -> Atom {
+        self.atoms += 1;
+        Atom { p, q, c: FAR + self.atoms }
+    }
+
+    /// The kth of many instances of three variables
+    fn three(&self, k: usize) -> Vec<u8> {
+        let n = self.constants as usize;
+        [k / n / n, k / n, k].iter().map(|digit| (digit % n) as u8 + 1).collect()
+    }
+
+    /// So many entries by decisions
+    fn decisions(&mut self, entries: usize) {
+        let clause = self.clause(3, vec![], vec![literal(true, 1, 1)]);
+        for k in 0..entries {
+            self.steps.push(decide(clause, self.three(k)));
+        }
+    }
+
+    /// So many entries by propagations of a literal and up to 24 atoms, over all constants in turn.
+    fn propagations(&mut self, entries: usize, kind: Atoms) {
+        let n = self.constants;
+        let mut left = entries;
+        for k in 0u8.. {
+            if left == 0 {
+                break;
+            }
+            let count = left.min(25) - 1;
+            let sides = [(1, 0), (0, 1), (2, 0), (0, 2), (3, 0), (0, 3)];
+            let between = [(1, 2), (2, 3), (3, 1)];
+            let bounds = if kind == Atoms::Bounds { count } else { count.min(6) };
+            let places = sides
+                .iter()
+                .cycle()
+                .take(bounds)
+                .chain(between.iter().cycle().take(count - bounds));
+            let atoms = places.map(|&(p, q)| self.atom(p, q)).collect();
+            let clause = self.clause(3, atoms, vec![literal(true, 1 + k / n.min(2), 1)]);
+            let instance = (0..3).map(|x| (3 * k + x) % n + 1).collect();
+            self.steps.push(propagate(clause, instance));
+            left -= count + 1;
+        }
+    }
+
+    fn with(&self, steps: Vec<Step>) -> Draft {
+        Draft { steps: [self.steps.clone(), steps].concat(), ..self.clone() }
+    }
+
+    fn bytes(&self) -> Vec<u8> {
+        write(&RunFile {
+            constants: self.constants,
+            arities: ARITIES.to_vec(),
+            clauses: self.clauses.clone(),
+            steps: self.steps.clone(),
+        })
+        .bytes
     }
 }
 
-fn file(constants: u8, steps: Vec<Step>) -> Vec<u8> {
-    write(&RunFile { constants, arities: vec![1; 8], clauses: clauses(), steps }).bytes
+fn near(name: String, without: Draft, with: Draft, count: usize) -> Near {
+    Near { name, without: without.bytes(), with: with.bytes(), count }
 }
 
-/// The first steps, up to a trail of so many entries: decisions, and after some 90 of them propagations, since there are 128 literals.
-fn trail(entries: usize) -> Vec<Step> {
-    let decisions = if entries <= 90 { entries } else { 90 + entries % 2 };
-    let propagations = (entries - decisions) / 2;
-    (0..decisions).map(decide).chain((0..propagations).map(|k| propagate(decisions + k))).collect()
+/// The steps at the end of a draft, so many
+fn last(name: String, draft: Draft, count: usize) -> Near {
+    let before = draft.steps[..draft.steps.len() - count].to_vec();
+    near(name, Draft { steps: before, ..draft.clone() }, draft, count)
 }
 
-/// A trail of so many entries, P8 of the last constant propagated at its end, and a conflict that denies it eight times
-fn denied_often(entries: usize) -> Vec<Step> {
-    let propagate = Step::Propagate { clause: 11, literal: 1, instance: vec![16] };
-    let conflict = Step::Conflict { clause: 10, instance: vec![16; 8] };
-    [trail(entries - 1), vec![propagate, conflict]].concat()
+/// The last quarter of a trail, but of a short one most
+fn part(entries: usize) -> usize {
+    (entries / 4).max(8)
 }
 
-fn near(rule: &'static str, entries: usize) -> Near {
-    let conflict = Step::Conflict { clause: 9, instance: vec![1] };
-    let mut constants = 16;
-    let (before, steps) = match rule {
-        "decide" if entries <= 90 => {
-            (trail(entries - 8), (0..8).map(|k| decide(entries - 8 + k)).collect())
-        }
-        "decide" => (trail(entries - 2), vec![decide(126), decide(127)]),
-        "skip" => ([trail(entries), vec![conflict]].concat(), vec![Step::Skip; 8]),
-        "resolve" => (denied_often(entries), vec![Step::Resolve { literal: 1 }; 8]),
-        "factorize" => (denied_often(entries), vec![Step::Factorize { first: 1, second: 2 }; 7]),
-        // The first of them empties the trail.
-        "grow" => {
-            constants = 10;
-            (trail_of_few(entries), vec![Step::Grow { count: 1 }; 6])
-        }
-        _ => (
-            (0..entries / 2 - 4).map(propagate).collect(),
-            (entries / 2 - 4..entries / 2).map(propagate).collect::<Vec<_>>(),
-        ),
+fn decides(entries: usize) -> Near {
+    let mut draft = Draft::new(16);
+    draft.decisions(entries);
+    last(format!("decide, {entries} entries"), draft, part(entries))
+}
+
+/// From the top of a trail of decisions, down by its last quarter
+fn skips(entries: usize) -> Near {
+    let mut draft = Draft::new(16);
+    draft.decisions(entries);
+    let denied = draft.clause(3, vec![], vec![literal(false, 1, 1)]);
+    draft.steps.push(conflict(denied, draft.three(0)));
+    draft.steps.extend(vec![Step::Skip; part(entries)]);
+    last(format!("skip, {entries} entries"), draft, part(entries))
+}
+
+/// P8 of the constants in turn, each by the one before it, at the end of a trail. The conflict denies the last eight times, and eight times
+/// each before it, as they are resolved away; the file beside it denies the first eight times, and skips the same entries.
+fn resolves(entries: usize) -> Near {
+    let chain = entries.min(16) as u8;
+    let mut draft = Draft::new(16);
+    draft.decisions(entries - chain as usize);
+    let given = draft.clause(1, vec![], vec![literal(true, 8, 1)]);
+    let onward = draft.clause(2, vec![], vec![literal(true, 8, 1), literal(false, 8, 2)]);
+    let denied = draft.clause(8, vec![], (1..=8).map(|x| literal(false, 8, x)).collect());
+    draft.steps.push(propagate(given, vec![1]));
+    draft.steps.extend((2..=chain).map(|c| propagate(onward, vec![c, c - 1])));
+    let mut with = vec![conflict(denied, vec![chain; 8])];
+    let mut without = vec![conflict(denied, vec![1; 8])];
+    for _ in 1..chain {
+        with.extend(vec![Step::Resolve { literal: 1 }; 8]);
+        with.push(Step::Skip);
+        without.push(Step::Skip);
+    }
+    let count = 8 * (chain as usize - 1);
+    near(format!("resolve, {entries} entries"), draft.with(without), draft.with(with), count)
+}
+
+/// Decisions that are denied and learned from, one after the other, on a trail of bounds: each conflict has the first entry of all denied seven
+/// times, or once after six factorizations.
+fn factorizes(entries: usize) -> Near {
+    let turns = (entries * 6 / 10).min(30);
+    let mut draft = Draft::new(4);
+    let first = draft.clause(1, vec![], vec![literal(true, 8, 1)]);
+    let next = draft.clause(3, vec![], vec![literal(true, 7, 1)]);
+    let literals = [literal(false, 7, 1)].into_iter().chain((4..=10).map(|x| literal(false, 8, x)));
+    let denied = draft.clause(10, vec![], literals.collect());
+    draft.steps.push(decide(first, vec![1]));
+    draft.propagations(entries - 1 - turns, Atoms::Bounds);
+    let mut without = Vec::new();
+    let mut with = Vec::new();
+    for k in 0..turns {
+        let three = draft.three(k);
+        let begin = [decide(next, three.clone()), conflict(denied, [three, vec![1; 7]].concat())];
+        without.extend(begin.clone());
+        with.extend(begin);
+        with.extend(vec![Step::Factorize { first: 2, second: 3 }; 6]);
+        without.push(Step::Backtrack { literal: 1 });
+        with.push(Step::Backtrack { literal: 1 });
+    }
+    let (without, with) = (draft.with(without), draft.with(with));
+    near(format!("factorize, {entries} entries"), without, with, 6 * turns)
+}
+
+/// The first of them empties the trail.
+fn grows(entries: usize) -> Near {
+    let mut draft = Draft::new(1);
+    draft.propagations(entries, Atoms::Bounds);
+    draft.steps.extend(vec![Step::Grow { count: 1 }; 15]);
+    last(format!("grow, {entries} entries"), draft, 15)
+}
+
+/// Propagations of a literal and one atom that is new. A difference has bounds beside it, which are on the trail by then.
+fn propagates(constants: u8, entries: usize, kind: Atoms) -> Near {
+    let mut draft = Draft::new(constants);
+    let [count, first] = match (kind, entries) {
+        (Atoms::Bounds, 10) => [4, 0],
+        (Atoms::Bounds, _) => [10, 0],
+        (Atoms::Differences, 10) => [2, 1],
+        (Atoms::Differences, _) => [10, 1],
     };
-    let count = steps.len();
-    Near {
-        rule,
-        entries,
-        without: file(constants, before.clone()),
-        with: file(constants, [before, steps].concat()),
-        count,
+    draft.propagations(entries - 2 * count - 6 * first, kind);
+    let sides = [draft.atom(4, 0), draft.atom(0, 4), draft.atom(5, 0), draft.atom(0, 5)];
+    for k in 0..(count + first) as u8 {
+        let own = literal(true, 5 + k / 8, 1);
+        let three = [k / 4, k / 2, k].map(|digit| digit % 2 + 1);
+        let (clause, others) = if kind == Atoms::Bounds {
+            let atom = draft.atom(4, 0);
+            (draft.clause(4, vec![atom], vec![own]), vec![k % constants + 1])
+        } else {
+            let atom = draft.atom(4, 5);
+            (draft.clause(5, [&sides[..], &[atom]].concat(), vec![own]), vec![1, 2])
+        };
+        draft.steps.push(propagate(clause, [&three[..], &others].concat()));
     }
+    let name = if kind == Atoms::Bounds { "bounds" } else { "differences" };
+    last(format!("propagate, {name}, {constants} constants, {entries} entries"), draft, count)
 }
 
-/// The rules that test no atoms, and Propagate, on trails of 10, 80 and 160 entries.
+/// On a trail of bounds between two decisions that are denied together: the Conflict alone, or the Backtrack alone.
+fn ends(rule: &str, constants: u8, entries: usize) -> Near {
+    let mut draft = Draft::new(constants);
+    let first = draft.clause(1, vec![], vec![literal(true, 8, 1)]);
+    let next = draft.clause(3, vec![], vec![literal(true, 7, 1)]);
+    draft.steps.push(decide(first, vec![1]));
+    draft.propagations(entries - 2, Atoms::Bounds);
+    draft.steps.push(decide(next, vec![1; 3]));
+    // The first atom of the trail: it is not appended again.
+    let atom = Atom { p: 4, q: 0, c: FAR + 1 };
+    let denied = draft.clause(4, vec![atom], vec![literal(false, 7, 1), literal(false, 8, 4)]);
+    draft.steps.push(conflict(denied, vec![1; 4]));
+    if rule == "backtrack" {
+        draft.steps.push(Step::Backtrack { literal: 1 });
+    }
+    last(format!("{rule}, {constants} constants, {entries} entries"), draft, 1)
+}
+
+/// Every rule on trails of 10, 80 and 160 entries; those that test atoms with 2, 4 and 16 constants.
 pub fn all() -> Vec<Near> {
-    let rules = ["decide", "skip", "resolve", "factorize", "grow", "propagate"];
-    rules.into_iter().flat_map(|rule| [10, 80, 160].map(|entries| near(rule, entries))).collect()
+    let mut rows = Vec::new();
+    for rule in [decides, skips, resolves, factorizes, grows] {
+        rows.extend([10, 80, 160].map(rule));
+    }
+    let mut tests: Vec<Box<dyn Fn(u8, usize) -> Near>> = Vec::new();
+    for kind in [Atoms::Bounds, Atoms::Differences] {
+        tests.push(Box::new(move |constants, entries| propagates(constants, entries, kind)));
+    }
+    for rule in ["conflict", "backtrack"] {
+        tests.push(Box::new(move |constants, entries| ends(rule, constants, entries)));
+    }
+    for test in tests {
+        for constants in [2, 4, 16] {
+            rows.extend([10, 80, 160].map(|entries| test(constants, entries)));
+        }
+    }
+    rows
 }

@@ -1,45 +1,64 @@
-//! Times the proved tool beside the independent checker on the same files, in one run: whole files, and single steps on trails of 10, 80 and
-//! 160 entries. A step's time is that of a file with a few such steps at its end less that of the file without them; reading the steps and
-//! writing their lines is in it.
+//! Times the proved tool beside the independent checker on the same files, in one run: whole files, and single steps of every rule on trails
+//! of 10, 80 and 160 entries.
+//!
+//! A step's time is that of a file with some such steps less that of the file without them, over their number; reading the steps and writing
+//! their lines is in it. The two files, a copy of the second, and both sides are timed in turn, many times over. The medians of the turns of
+//! one round make a value; printed are the median of the rounds and, in brackets, their middle half. A ratio is that of the medians, its
+//! bracket the middle half of the rounds' ratios.
+//!
+//! What can't be told from noise is printed as below the resolution: where the middle half of the rounds reaches zero, or the median is not
+//! above twice what a file differs from its own copy, at the far end of the middle half. There is no ratio then.
 
 use checker::generate::generate;
 use checker::listing::{listing, run};
+use compare::steps::Near;
 use compare::{judge, steps, ROOM};
 use std::hint::black_box;
-use std::time::Instant;
+use std::time::{Duration, Instant};
 
 const FILES: u64 = 2_000;
-const ROUNDS: usize = 50;
+/// Rounds over all whole files, and the calls of which a round takes the median
+const PASSES: usize = 9;
+const CALLS: usize = 5;
+/// Rounds of a row
+const ROUNDS: usize = 21;
+const ROUND: Duration = Duration::from_millis(80);
+/// The clock is read at most so often.
+const SAMPLE: Duration = Duration::from_micros(50);
 
-/// Seconds that one call of each takes: the least of several rounds, taken in turn, each of so many calls that the clock can tell.
-fn seconds(calls: &mut [&mut dyn FnMut()]) -> Vec<f64> {
-    fn round(call: &mut dyn FnMut(), times: usize) -> f64 {
-        let start = Instant::now();
-        (0..times).for_each(|_| call());
-        start.elapsed().as_secs_f64()
+/// The median of some values, and the ends of their middle half
+struct Spread {
+    low: f64,
+    median: f64,
+    high: f64,
+}
+
+impl Spread {
+    fn of(values: impl IntoIterator<Item = f64>) -> Spread {
+        let mut sorted: Vec<f64> = values.into_iter().collect();
+        sorted.sort_by(f64::total_cmp);
+        let at = |quarter| sorted[(sorted.len() - 1) * quarter / 4];
+        Spread { low: at(1), median: at(2), high: at(3) }
     }
-    let enough = |call: &mut &mut dyn FnMut()| {
-        let mut times = 1;
-        while round(*call, times) < 0.005 {
-            times *= 2;
-        }
-        times
-    };
-    let times: Vec<usize> = calls.iter_mut().map(enough).collect();
-    let mut least = vec![f64::INFINITY; calls.len()];
-    for _ in 0..ROUNDS {
-        for ((call, &times), least) in calls.iter_mut().zip(&times).zip(&mut least) {
-            *least = least.min(round(*call, times) / times as f64);
-        }
+
+    /// The far end of the middle half, on either side of zero
+    fn far(&self) -> f64 {
+        self.low.abs().max(self.high.abs())
     }
-    least
+}
+
+fn seconds(call: &mut dyn FnMut(), times: usize) -> f64 {
+    let start = Instant::now();
+    (0..times).for_each(|_| call());
+    start.elapsed().as_secs_f64() / times as f64
 }
 
 /// Ours on a file
-fn ours<'a>(file: &'a [u8], out: &'a mut [u8]) -> impl FnMut() + 'a {
-    assert_eq!(judge(file, out).expect("room"), listing(file).as_bytes());
+fn ours(file: &[u8]) -> impl FnMut() + '_ {
+    let mut out = vec![0; ROOM];
+    assert_eq!(judge(file, &mut out).expect("room"), listing(file).as_bytes());
     move || {
-        black_box(judge(black_box(file), out));
+        black_box(judge(black_box(file), &mut out));
     }
 }
 
@@ -50,47 +69,116 @@ fn theirs(file: &[u8]) -> impl FnMut() + '_ {
     }
 }
 
-fn single_steps() {
-    println!("single steps            ours ns  checker ns  ratio");
-    let (mut out, mut other) = (vec![0; ROOM], vec![0; ROOM]);
-    for near in steps::all() {
-        let took = seconds(&mut [
-            &mut ours(&near.without, &mut out),
-            &mut ours(&near.with, &mut other),
-            &mut theirs(&near.without),
-            &mut theirs(&near.with),
-        ]);
-        let each = |less: f64, more: f64| (more - less) * 1e9 / near.count as f64;
-        let (ours, theirs) = (each(took[0], took[1]), each(took[2], took[3]));
-        let name = format!("{}, {} entries", near.rule, near.entries);
-        println!("{name:<23} {ours:>8.0} {theirs:>11.0} {:>6.2}", ours / theirs);
+/// Of one round what each call takes in the median: the calls by turns, each turn beginning with the next of them.
+fn round(calls: &mut [Box<dyn FnMut() + '_>], times: usize) -> Vec<f64> {
+    let mut took = vec![Vec::new(); calls.len()];
+    let start = Instant::now();
+    let mut turn = 0;
+    while start.elapsed() < ROUND {
+        for k in 0..calls.len() {
+            let k = (k + turn) % calls.len();
+            took[k].push(seconds(&mut calls[k], times));
+        }
+        turn += 1;
+    }
+    took.into_iter().map(|values| Spread::of(values).median).collect()
+}
+
+/// What a step takes on one side, in nanoseconds, by rounds; and what the copy of the file without it takes more than that file.
+struct Step {
+    each: Vec<f64>,
+    noise: Vec<f64>,
+}
+
+impl Step {
+    fn of(rounds: &[Vec<f64>], first: usize, count: usize) -> Step {
+        let differences = |k: usize| {
+            let less = |round: &Vec<f64>| (round[first + k] - round[first]) * 1e9 / count as f64;
+            rounds.iter().map(less).collect()
+        };
+        Step { each: differences(2), noise: differences(1) }
+    }
+
+    /// What is less can't be told from noise.
+    fn resolution(&self) -> f64 {
+        let (each, noise) = (Spread::of(self.each.clone()), Spread::of(self.noise.clone()));
+        let told = 2.0 * noise.far();
+        if each.low <= 0.0 {
+            told.max(each.far())
+        } else {
+            told
+        }
+    }
+
+    fn is_told(&self) -> bool {
+        Spread::of(self.each.clone()).median > self.resolution()
+    }
+
+    fn text(&self) -> String {
+        let Spread { low, median, high } = Spread::of(self.each.clone());
+        if self.is_told() {
+            format!("{median:.0} ({low:.0} to {high:.0})")
+        } else {
+            format!("below {:.0}", self.resolution())
+        }
     }
 }
 
-/// The least of five calls
-fn quick(mut call: impl FnMut()) -> f64 {
-    let once = |_| {
-        let start = Instant::now();
-        call();
-        start.elapsed().as_secs_f64()
-    };
-    (0..5).map(once).fold(f64::INFINITY, f64::min)
-}
-
-fn whole_files(name: &str, files: &[Vec<u8>], out: &mut [u8]) {
-    let (mut sums, mut ratios) = ((0.0, 0.0), Vec::new());
+fn single_step(near: &Near) {
+    let copy = near.without.clone();
+    let files = [&near.without, &copy, &near.with];
+    let mut calls: Vec<Box<dyn FnMut() + '_>> = Vec::new();
     for file in files {
-        let (a, b) = (quick(ours(file, out)), quick(theirs(file)));
-        sums.0 += a;
-        sums.1 += b;
-        ratios.push(a / b);
+        assert!(!listing(file).contains("refused"), "{} is refused", near.name);
+        calls.push(Box::new(ours(file)));
     }
+    for file in files {
+        calls.push(Box::new(theirs(file)));
+    }
+    let mut times = 1;
+    while seconds(&mut calls[0], times) * (times as f64) < SAMPLE.as_secs_f64() {
+        times *= 2;
+    }
+    let rounds: Vec<Vec<f64>> = (0..ROUNDS).map(|_| round(&mut calls, times)).collect();
+    let (a, b) = (Step::of(&rounds, 0, near.count), Step::of(&rounds, 3, near.count));
+    let ratio = if a.is_told() && b.is_told() {
+        let Spread { low, high, .. } = Spread::of(a.each.iter().zip(&b.each).map(|(a, b)| a / b));
+        let median = Spread::of(a.each.clone()).median / Spread::of(b.each.clone()).median;
+        format!("{median:.2} ({low:.2} to {high:.2})")
+    } else {
+        "-".to_string()
+    };
+    println!("{:<50} {:>5} {:>24} {:>24} {ratio:>22}", near.name, near.count, a.text(), b.text());
+}
+
+/// What the two sides take on a file, by turns
+fn by_turns(ours: &mut dyn FnMut(), theirs: &mut dyn FnMut()) -> (f64, f64) {
+    let took: Vec<_> = (0..CALLS).map(|_| (seconds(ours, 1), seconds(theirs, 1))).collect();
+    let middle = |side: fn(&(f64, f64)) -> f64| Spread::of(took.iter().map(side)).median;
+    (middle(|took| took.0), middle(|took| took.1))
+}
+
+fn whole_files(name: &str, files: &[Vec<u8>]) {
+    // For each pass the times of all files, ours and the checker's
+    let mut calls: Vec<_> = files.iter().map(|file| (ours(file), theirs(file))).collect();
+    let passes: Vec<Vec<(f64, f64)>> =
+        (0..PASSES).map(|_| calls.iter_mut().map(|(a, b)| by_turns(a, b)).collect()).collect();
+    let together = passes.iter().map(|pass| {
+        pass.iter().map(|took| took.0).sum::<f64>() / pass.iter().map(|took| took.1).sum::<f64>()
+    });
+    let Spread { low, median, high } = Spread::of(together);
+    let of_file = |k: usize| {
+        let middle = |side: fn(&(f64, f64)) -> f64| {
+            Spread::of(passes.iter().map(|pass| side(&pass[k]))).median
+        };
+        middle(|took| took.0) / middle(|took| took.1)
+    };
+    let mut ratios: Vec<f64> = (0..files.len()).map(of_file).collect();
     ratios.sort_by(f64::total_cmp);
     let at = |percent: usize| ratios[(ratios.len() - 1) * percent / 100];
     println!(
-        "{:>5} {name}: all together {:.2}, median {:.2}, 95 of 100 below {:.2}, largest {:.2}, {} above 10",
+        "{:>5} {name}: all together {median:.2} ({low:.2} to {high:.2}), median {:.2}, 95 of 100 below {:.2}, largest {:.2}, {} above 10",
         files.len(),
-        sums.0 / sums.1,
         at(50),
         at(95),
         at(100),
@@ -99,11 +187,12 @@ fn whole_files(name: &str, files: &[Vec<u8>], out: &mut [u8]) {
 }
 
 fn main() {
-    let mut out = vec![0; ROOM];
     println!("whole files, ratios");
     let (good, bad): (Vec<_>, Vec<_>) =
         (1..=FILES).map(generate).partition(|file| run(file).is_ok());
-    whole_files("files with steps", &good, &mut out);
-    whole_files("bad files", &bad, &mut out);
-    single_steps();
+    whole_files("files with steps", &good);
+    whole_files("bad files", &bad);
+    let heads = ["single steps", "steps", "ours ns", "checker ns", "ratio"];
+    println!("{:<50} {:>5} {:>24} {:>24} {:>22}", heads[0], heads[1], heads[2], heads[3], heads[4]);
+    steps::all().iter().for_each(single_step);
 }

@@ -58,12 +58,11 @@ fn counted(file: &[u8], out: &mut [u8]) -> [usize; 3] {
 
 fn main() {
     let mut out = vec![0; ROOM];
-    println!("in a step               copies   bytes  tables");
+    println!("{:<50} copies   bytes  tables", "in a step");
     for near in steps::all() {
         let (less, more) = (counted(&near.without, &mut out), counted(&near.with, &mut out));
         let [copies, bytes, tables] =
-            [0, 1, 2].map(|k| (more[k] - less[k]) as f64 / near.count as f64);
-        let name = format!("{}, {} entries", near.rule, near.entries);
-        println!("{name:<23} {copies:>6.1} {bytes:>7.0} {tables:>7.1}");
+            [0, 1, 2].map(|k| (more[k] as f64 - less[k] as f64) / near.count as f64);
+        println!("{:<50} {copies:>6.1} {bytes:>7.0} {tables:>7.1}", near.name);
     }
 }
