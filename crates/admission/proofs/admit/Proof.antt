@@ -7,12 +7,6 @@ use Rattle.admission.proofs.Tables.{counts-refused, counts-accepted, fe
 use Rattle.admission.proofs.admit.Statement.{statement}
 use Rattle.admission.proofs.admit.Tie as tie
 
-counts-fit-requires : tie.Need-counts-fit-requires
-counts-fit-requires c κs = search needs
-
-refused-table-requires : tie.Need-refused-table-requires
-refused-table-requires c κs = search needs
-
 returns : tie.Need-returns
 returns c = let a = c .before .before .before .args in counts-refused (a .constants) (a .predicates) (a .arities) (a .count) (a .clauses) (sym (c .before .before .counts-fit .ensures) ∙ not-true (c .before .before .counts-fit .result) (c .before .if1 .taken)) (c .refused-table .ensures)
 
@@ -25,4 +19,4 @@ returns-2 c = let a = c .before .before .before .args in c .admit-clauses .ensur
 pub admit-spec : {M : Type 1} → statement M
 admit-spec =
     tie.close
-    (tie.spec counts-fit-requires refused-table-requires returns admit-clauses-requires returns-2)
+    (tie.spec (λ c κs. search needs) (λ c κs. search needs) returns admit-clauses-requires returns-2)

@@ -14,12 +14,6 @@ use Rattle.admission.proofs.Judging.{packed-counted, offered-says, answ
 use Rattle.admission.proofs.admit_clause.Statement.{statement}
 use Rattle.admission.proofs.admit_clause.Tie as tie
 
-counted-requires : tie.Need-counted-requires
-counted-requires c κs = search needs
-
-refused-clause-requires : tie.Need-refused-clause-requires
-refused-clause-requires c κs = search needs
-
 returns : tie.Need-returns
 returns c = let a = c .before .before .before .args in c .refused-clause .ensures ∙ answer-above (offeredArities (a .predicates) (a .arities)) (a .c) (sym (c .before .before .counted .ensures) ∙ not-true (c .before .before .counted .result) (c .before .if1 .taken))
 
@@ -28,9 +22,6 @@ clean-requires c κs = counted-facts (c .before .before .args .c) (sym (c .befor
 
 refusal-of-requires : tie.Need-refusal-of-requires
 refusal-of-requires c κs = let a = c .before .before .before .args in subst Counted (sym (c .clean .ensures)) (packed-counted (offeredArities (a .predicates) (a .arities)) (a .c) (counted-facts (a .c) (sym (c .before .before .counted .ensures) ∙ not-false (c .before .before .counted .result) (c .before .if1 .left))))
-
-refused-clause-requires-2 : tie.Need-refused-clause-requires-2
-refused-clause-requires-2 c κs = search needs
 
 returns-2 : tie.Need-returns-2
 returns-2 c =
@@ -52,11 +43,11 @@ pub admit-clause-spec : {M : Type 1} → statement M
 admit-clause-spec =
     tie.close
     (tie.spec
-    counted-requires
-    refused-clause-requires
+    (λ c κs. search needs)
+    (λ c κs. search needs)
     returns
     clean-requires
     refusal-of-requires
-    refused-clause-requires-2
+    (λ c κs. search needs)
     returns-2
     returns-3)

@@ -25,46 +25,13 @@ Inv-loop predicates arities count clauses n out₀ j₀ out j = (j ≤ n) × (le
 abbrev μ-loop : tie.MeasureT-loop
 μ-loop predicates arities count clauses n out₀ j₀ out j = n - j
 
-no-table-requires : tie.Need-no-table-requires Inv-loop μ-loop
-no-table-requires c κs = search needs
-
 loop-holds : tie.Need-loop-holds Inv-loop μ-loop
 loop-holds c = (omega arith, search needs, refl, c .no-table .ensures)
-
-mul-c : tie.Need-mul-c Inv-loop μ-loop
-mul-c c = search needs
-
-array-copy-out-c : tie.Need-array-copy-out-c Inv-loop μ-loop
-array-copy-out-c c = search needs
-
-admit-clause-requires : tie.Need-admit-clause-requires Inv-loop μ-loop
-admit-clause-requires c κs = search needs
-
-cast-refused-table : tie.Need-cast-refused-table Inv-loop μ-loop
-cast-refused-table c = search needs
-
-add-refused-table : tie.Need-add-refused-table Inv-loop μ-loop
-add-refused-table c = search needs
-
-refused-table-requires : tie.Need-refused-table-requires Inv-loop μ-loop
-refused-table-requires c κs = search needs
 
 returns : tie.Need-returns Inv-loop μ-loop
 returns c =
     let a = c .before .before .before .before .before .before .before .before .args in
     table-refused (offeredArities (a .predicates) (a .arities)) (a .count) (a .t4) (omega arith) (c .before .before .before .before .before .before .loop .j) (omega arith) (c .before .before .before .before .before .before .loop .inv .2) (c .before .before .before .admit-clause .ensures) (c .before .if1 .taken) (c .refused-table .ensures)
-
-mul-out : tie.Need-mul-out Inv-loop μ-loop
-mul-out c = search needs
-
-array-set-from-out : tie.Need-array-set-from-out Inv-loop μ-loop
-array-set-from-out c = search needs
-
-add-j : tie.Need-add-j Inv-loop μ-loop
-add-j c = search needs
-
-loop-less : tie.Need-loop-less Inv-loop μ-loop
-loop-less c = search needs
 
 loop-again : tie.Need-loop-again Inv-loop μ-loop
 loop-again c =
@@ -91,18 +58,18 @@ admit-clauses-spec =
     (tie.spec
     Inv-loop
     μ-loop
-    no-table-requires
+    (λ c κs. search needs)
     loop-holds
-    mul-c
-    array-copy-out-c
-    admit-clause-requires
-    cast-refused-table
-    add-refused-table
-    refused-table-requires
+    (λ c. search needs)
+    (λ c. search needs)
+    (λ c κs. search needs)
+    (λ c. search needs)
+    (λ c. search needs)
+    (λ c κs. search needs)
     returns
-    mul-out
-    array-set-from-out
-    add-j
-    loop-less
+    (λ c. search needs)
+    (λ c. search needs)
+    (λ c. search needs)
+    (λ c. search needs)
     loop-again
     returns-2)

@@ -22,17 +22,8 @@ abbrev μ-loop : tie.MeasureT-loop
 loop-holds : tie.Need-loop-holds Inv-loop μ-loop
 loop-holds c = (omega arith, refl)
 
-add-y : tie.Need-add-y Inv-loop μ-loop
-add-y c = search needs
-
-occurs-requires : tie.Need-occurs-requires Inv-loop μ-loop
-occurs-requires c κs = search needs
-
 returns : tie.Need-returns Inv-loop μ-loop
 returns c = let C = clauseOf (c .before .before .before .before .args .c) in sym (occur-fails (occursIn (C .atoms) (C .literals)) (c .before .before .before .loop .x) (C .variables) (omega arith) (sym (c .before .occurs .ensures) ∙ not-true (c .before .occurs .result) (c .if1 .taken)))
-
-loop-less : tie.Need-loop-less Inv-loop μ-loop
-loop-less c = search needs
 
 loop-again : tie.Need-loop-again Inv-loop μ-loop
 loop-again c = let C = clauseOf (c .before .before .before .before .args .c) in (omega arith, occur-turn (occursIn (C .atoms) (C .literals)) (c .before .before .before .loop .x) (c .before .before .before .loop .inv .1) (sym (c .before .occurs .ensures) ∙ not-false (c .before .occurs .result) (c .if1 .left)))
@@ -47,9 +38,9 @@ all-occur-spec =
     Inv-loop
     μ-loop
     loop-holds
-    add-y
-    occurs-requires
+    (λ c. search needs)
+    (λ c κs. search needs)
     returns
-    loop-less
+    (λ c. search needs)
     loop-again
     returns-2)

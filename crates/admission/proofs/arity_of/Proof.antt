@@ -9,17 +9,8 @@ use Rattle.admission.proofs.Judging.{arity-within, arity-past}
 use Rattle.admission.proofs.arity_of.Statement.{statement}
 use Rattle.admission.proofs.arity_of.Tie as tie
 
-predicate-slot-requires : tie.Need-predicate-slot-requires
-predicate-slot-requires c κs = search needs
-
 returns : tie.Need-returns
 returns c = let a = c .before .before .args in sym (arity-past (a .predicates) (a .t2) (a .p) (omega (arith, c .before .predicate-slot .ensures)))
-
-cast-i : tie.Need-cast-i
-cast-i c = search needs
-
-array-read-result : tie.Need-array-read-result
-array-read-result c = search needs
 
 returns-2 : tie.Need-returns-2
 returns-2 c =
@@ -36,4 +27,4 @@ returns-3 c =
 
 pub arity-of-spec : {M : Type 1} → statement M
 arity-of-spec =
-    tie.close (tie.spec predicate-slot-requires returns cast-i array-read-result returns-2 returns-3)
+    tie.close (tie.spec (λ c κs. search needs) returns (λ c. search needs) (λ c. search needs) returns-2 returns-3)

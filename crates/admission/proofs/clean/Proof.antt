@@ -11,12 +11,6 @@ use Rattle.admission.proofs.Judging.{clean-is}
 use Rattle.admission.proofs.clean.Statement.{statement}
 use Rattle.admission.proofs.clean.Tie as tie
 
-clean-atoms-requires : tie.Need-clean-atoms-requires
-clean-atoms-requires c κs = search needs
-
-clean-literals-requires : tie.Need-clean-literals-requires
-clean-literals-requires c κs = search needs
-
 returns : tie.Need-returns
 returns c =
     let a = c .before .before .args in
@@ -24,4 +18,4 @@ returns c =
     ∙ clean-is (offeredArities (a .predicates) (a .arities)) (a .c)
 
 pub clean-spec : {M : Type 1} → statement M
-clean-spec = tie.close (tie.spec clean-atoms-requires clean-literals-requires returns)
+clean-spec = tie.close (tie.spec (λ c κs. search needs) (λ c κs. search needs) returns)

@@ -4,22 +4,10 @@ use borrow.Author.Needs.{needs}
 use Rattle.admission.proofs.clean_literal.Statement.{statement}
 use Rattle.admission.proofs.clean_literal.Tie as tie
 
-arity-of-requires : tie.Need-arity-of-requires
-arity-of-requires c κs = search needs
-
-argument-requires : tie.Need-argument-requires
-argument-requires c κs = search needs
-
-argument-requires-2 : tie.Need-argument-requires-2
-argument-requires-2 c κs = search needs
-
-argument-requires-3 : tie.Need-argument-requires-3
-argument-requires-3 c κs = search needs
-
 returns : tie.Need-returns
 returns c = cc
 
 pub clean-literal-spec : {M : Type 1} → statement M
 clean-literal-spec =
     tie.close
-    (tie.spec arity-of-requires argument-requires argument-requires-2 argument-requires-3 returns)
+    (tie.spec (λ c κs. search needs) (λ c κs. search needs) (λ c κs. search needs) (λ c κs. search needs) returns)

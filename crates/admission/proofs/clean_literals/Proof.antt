@@ -20,35 +20,8 @@ Inv-loop predicates arities c n out₀ j₀ out j = (j ≤ n) × (out ≡ exactl
 abbrev μ-loop : tie.MeasureT-loop
 μ-loop predicates arities c n out₀ j₀ out j = n - j
 
-literals-of-requires : tie.Need-literals-of-requires Inv-loop μ-loop
-literals-of-requires c κs = search needs
-
-no-literal-requires : tie.Need-no-literal-requires Inv-loop μ-loop
-no-literal-requires c κs = search needs
-
 loop-holds : tie.Need-loop-holds Inv-loop μ-loop
 loop-holds c = (omega arith, rw (c .no-literal .ensures) (sym (exactly-none noLiteral 8)))
-
-mul-l : tie.Need-mul-l Inv-loop μ-loop
-mul-l c = search needs
-
-element-copy-out-l : tie.Need-element-copy-out-l Inv-loop μ-loop
-element-copy-out-l c = search needs
-
-clean-literal-requires : tie.Need-clean-literal-requires Inv-loop μ-loop
-clean-literal-requires c κs = search needs
-
-mul-out : tie.Need-mul-out Inv-loop μ-loop
-mul-out c = search needs
-
-array-set-from-out : tie.Need-array-set-from-out Inv-loop μ-loop
-array-set-from-out c = search needs
-
-add-j : tie.Need-add-j Inv-loop μ-loop
-add-j c = search needs
-
-loop-less : tie.Need-loop-less Inv-loop μ-loop
-loop-less c = search needs
 
 loop-again : tie.Need-loop-again Inv-loop μ-loop
 loop-again c =
@@ -73,15 +46,15 @@ clean-literals-spec =
     (tie.spec
     Inv-loop
     μ-loop
-    literals-of-requires
-    no-literal-requires
+    (λ c κs. search needs)
+    (λ c κs. search needs)
     loop-holds
-    mul-l
-    element-copy-out-l
-    clean-literal-requires
-    mul-out
-    array-set-from-out
-    add-j
-    loop-less
+    (λ c. search needs)
+    (λ c. search needs)
+    (λ c κs. search needs)
+    (λ c. search needs)
+    (λ c. search needs)
+    (λ c. search needs)
+    (λ c. search needs)
     loop-again
     returns)

@@ -17,9 +17,6 @@ returns c = simp (lt-leb _ _ (c .if1 .taken))
 returns-2 : tie.Need-returns-2
 returns-2 c = simp (le-leb _ _ (c .before .if1 .left), lt-leb _ _ (c .if2 .taken))
 
-small-arities-requires : tie.Need-small-arities-requires
-small-arities-requires c κs = search needs
-
 returns-3 : tie.Need-returns-3
 returns-3 c =
     let a = c .before .before .before .before .args in
@@ -33,4 +30,4 @@ returns-4 c =
     rw (le-leb _ _ (c .before .before .before .if1 .left), le-leb _ _ (c .before .before .if2 .left), e) refl
 
 pub counts-fit-spec : {M : Type 1} → statement M
-counts-fit-spec = tie.close (tie.spec returns returns-2 small-arities-requires returns-3 returns-4)
+counts-fit-spec = tie.close (tie.spec returns returns-2 (λ c κs. search needs) returns-3 returns-4)

@@ -15,18 +15,12 @@ returns c = simp (eq-eqb _ _ (c .if1 .taken))
 returns-2 : tie.Need-returns-2
 returns-2 c = simp (ne-eqb _ _ (c .before .before .if1 .left), eq-eqb _ _ (c .if2 .taken))
 
-is-bounded-requires : tie.Need-is-bounded-requires
-is-bounded-requires c κs = search needs
-
 returns-3 : tie.Need-returns-3
 returns-3 c =
     let a = c .before .before .before .before .before .before .args in
     let az = clauseOf (a .c) .atoms in
     let e = sym (c .before .is-bounded .ensures) ∙ not-true (c .before .is-bounded .result) (c .if3 .taken) in
     simp (ne-eqb _ _ (c .before .before .before .before .if1 .left), ne-eqb _ _ (c .before .before .if2 .left)) (sym (ap (λ (b : Bool). b && bounded az (a .a .q)) e))
-
-is-bounded-requires-2 : tie.Need-is-bounded-requires-2
-is-bounded-requires-2 c κs = search needs
 
 returns-4 : tie.Need-returns-4
 returns-4 c =
@@ -38,4 +32,4 @@ returns-4 c =
 pub difference-bounded-spec : {M : Type 1} → statement M
 difference-bounded-spec =
     tie.close
-    (tie.spec returns returns-2 is-bounded-requires returns-3 is-bounded-requires-2 returns-4)
+    (tie.spec returns returns-2 (λ c κs. search needs) returns-3 (λ c κs. search needs) returns-4)

@@ -24,32 +24,14 @@ Inv-loop c n j₀ j = (j ≤ n) × (allOf (λ a. eqb (a .p) 0 || (eqb (a .q) 0 |
 abbrev μ-loop : tie.MeasureT-loop
 μ-loop c n j₀ j = n - j
 
-atoms-of-requires : tie.Need-atoms-of-requires Inv-loop μ-loop
-atoms-of-requires c κs = search needs
-
 loop-holds : tie.Need-loop-holds Inv-loop μ-loop
 loop-holds c = (omega arith, refl)
-
-mul-a : tie.Need-mul-a Inv-loop μ-loop
-mul-a c = search needs
-
-element-copy-out-a : tie.Need-element-copy-out-a Inv-loop μ-loop
-element-copy-out-a c = search needs
-
-difference-bounded-requires : tie.Need-difference-bounded-requires Inv-loop μ-loop
-difference-bounded-requires c κs = search needs
 
 returns : tie.Need-returns Inv-loop μ-loop
 returns c =
     let a = c .before .before .before .before .before .before .args in
     let p : Atom → Bool = λ b. eqb (b .p) 0 || (eqb (b .q) 0 || (bounded (clauseOf (a .t1) .atoms) (b .p) && bounded (clauseOf (a .t1) .atoms) (b .q))) in
     sym (allOf-fails p (a .t1 .atoms) (c .before .before .before .before .loop .j) (a .t1 .atomcount) noAtom (omega (arith, counted-within (c .before .before .before .before .before .atoms-of .ensures))) (omega arith) (sym (c .before .difference-bounded .ensures) ∙ not-true (c .before .difference-bounded .result) (c .if1 .taken)))
-
-add-j : tie.Need-add-j Inv-loop μ-loop
-add-j c = search needs
-
-loop-less : tie.Need-loop-less Inv-loop μ-loop
-loop-less c = search needs
 
 loop-again : tie.Need-loop-again Inv-loop μ-loop
 loop-again c =
@@ -66,13 +48,13 @@ differences-bounded-spec =
     (tie.spec
     Inv-loop
     μ-loop
-    atoms-of-requires
+    (λ c κs. search needs)
     loop-holds
-    mul-a
-    element-copy-out-a
-    difference-bounded-requires
+    (λ c. search needs)
+    (λ c. search needs)
+    (λ c κs. search needs)
     returns
-    add-j
-    loop-less
+    (λ c. search needs)
+    (λ c. search needs)
     loop-again
     returns-2)

@@ -20,29 +20,11 @@ Inv-loop p q c n j₀ j = (j ≤ n) × (anyOf (λ a. eqb (a .p) p && eqb (a .q) 
 abbrev μ-loop : tie.MeasureT-loop
 μ-loop p q c n j₀ j = n - j
 
-atoms-of-requires : tie.Need-atoms-of-requires Inv-loop μ-loop
-atoms-of-requires c κs = search needs
-
 loop-holds : tie.Need-loop-holds Inv-loop μ-loop
 loop-holds c = (omega arith, refl)
 
-mul-a : tie.Need-mul-a Inv-loop μ-loop
-mul-a c = search needs
-
-element-copy-out-a : tie.Need-element-copy-out-a Inv-loop μ-loop
-element-copy-out-a c = search needs
-
-is-between-requires : tie.Need-is-between-requires Inv-loop μ-loop
-is-between-requires c κs = search needs
-
 returns : tie.Need-returns Inv-loop μ-loop
 returns c = let a = c .before .before .before .before .before .before .args in sym (anyOf-found (λ b. eqb (b .p) (a .p) && eqb (b .q) (a .q)) (a .t1 .atoms) (c .before .before .before .before .loop .j) (a .t1 .atomcount) noAtom (omega (arith, counted-within (c .before .before .before .before .before .atoms-of .ensures))) (omega arith) (sym (c .before .is-between .ensures) ∙ c .if1 .taken))
-
-add-j : tie.Need-add-j Inv-loop μ-loop
-add-j c = search needs
-
-loop-less : tie.Need-loop-less Inv-loop μ-loop
-loop-less c = search needs
 
 loop-again : tie.Need-loop-again Inv-loop μ-loop
 loop-again c = let a = c .before .before .before .before .before .before .args in (omega arith, anyOf-not (λ b. eqb (b .p) (a .p) && eqb (b .q) (a .q)) (a .t1 .atoms) (c .before .before .before .before .loop .j) noAtom (omega arith) (c .before .before .before .before .loop .inv .1) (sym (c .before .is-between .ensures) ∙ c .if1 .left))
@@ -56,13 +38,13 @@ has-between-spec =
     (tie.spec
     Inv-loop
     μ-loop
-    atoms-of-requires
+    (λ c κs. search needs)
     loop-holds
-    mul-a
-    element-copy-out-a
-    is-between-requires
+    (λ c. search needs)
+    (λ c. search needs)
+    (λ c κs. search needs)
     returns
-    add-j
-    loop-less
+    (λ c. search needs)
+    (λ c. search needs)
     loop-again
     returns-2)

@@ -9,11 +9,8 @@ use Rattle.admission.proofs.Tables.{blank}
 use Rattle.admission.proofs.no_table.Statement.{statement}
 use Rattle.admission.proofs.no_table.Tie as tie
 
-no-clause-requires : tie.Need-no-clause-requires
-no-clause-requires c κs = search needs
-
 returns : tie.Need-returns
 returns c = ap (λ (c : Clause). replicate 48 c) (c .no-clause .ensures) ∙ sym (exactly-none blank 48)
 
 pub no-table-spec : {M : Type 1} → statement M
-no-table-spec = tie.close (tie.spec no-clause-requires returns)
+no-table-spec = tie.close (tie.spec (λ c κs. search needs) returns)

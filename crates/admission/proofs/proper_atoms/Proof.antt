@@ -21,29 +21,11 @@ Inv-loop c n j₀ j = (j ≤ n) × (allOf (properAtom (c .variables)) (take j (c
 abbrev μ-loop : tie.MeasureT-loop
 μ-loop c n j₀ j = n - j
 
-atoms-of-requires : tie.Need-atoms-of-requires Inv-loop μ-loop
-atoms-of-requires c κs = search needs
-
 loop-holds : tie.Need-loop-holds Inv-loop μ-loop
 loop-holds c = (omega arith, refl)
 
-mul-a : tie.Need-mul-a Inv-loop μ-loop
-mul-a c = search needs
-
-element-copy-out-a : tie.Need-element-copy-out-a Inv-loop μ-loop
-element-copy-out-a c = search needs
-
-proper-atom-requires : tie.Need-proper-atom-requires Inv-loop μ-loop
-proper-atom-requires c κs = search needs
-
 returns : tie.Need-returns Inv-loop μ-loop
 returns c = let a = c .before .before .before .before .before .before .args in sym (allOf-fails (properAtom (a .t1 .variables)) (a .t1 .atoms) (c .before .before .before .before .loop .j) (a .t1 .atomcount) noAtom (omega (arith, counted-within (c .before .before .before .before .before .atoms-of .ensures))) (omega arith) (sym (c .before .proper-atom .ensures) ∙ not-true (c .before .proper-atom .result) (c .if1 .taken)))
-
-add-j : tie.Need-add-j Inv-loop μ-loop
-add-j c = search needs
-
-loop-less : tie.Need-loop-less Inv-loop μ-loop
-loop-less c = search needs
 
 loop-again : tie.Need-loop-again Inv-loop μ-loop
 loop-again c = let a = c .before .before .before .before .before .before .args in (omega arith, allOf-and (properAtom (a .t1 .variables)) (a .t1 .atoms) (c .before .before .before .before .loop .j) noAtom (omega arith) (c .before .before .before .before .loop .inv .1) (sym (c .before .proper-atom .ensures) ∙ not-false (c .before .proper-atom .result) (c .if1 .left)))
@@ -57,13 +39,13 @@ proper-atoms-spec =
     (tie.spec
     Inv-loop
     μ-loop
-    atoms-of-requires
+    (λ c κs. search needs)
     loop-holds
-    mul-a
-    element-copy-out-a
-    proper-atom-requires
+    (λ c. search needs)
+    (λ c. search needs)
+    (λ c κs. search needs)
     returns
-    add-j
-    loop-less
+    (λ c. search needs)
+    (λ c. search needs)
     loop-again
     returns-2)

@@ -17,21 +17,12 @@ returns c = simp (lt-leb _ _ (c .if1 .taken))
 returns-2 : tie.Need-returns-2
 returns-2 c = let a = c .before .before .before .before .args in sym (literal-proper (a .predicates) (a .arities) (a .v) (a .l) ∙ simp (le-leb _ _ (c .before .before .if1 .left), lt-leb _ _ (c .if2 .taken)))
 
-arity-of-requires : tie.Need-arity-of-requires
-arity-of-requires c κs = search needs
-
-proper-argument-requires : tie.Need-proper-argument-requires
-proper-argument-requires c κs = search needs
-
 returns-3 : tie.Need-returns-3
 returns-3 c =
     let a = c .before .before .before .before .before .before .before .args in
     let e : properArgument 0 (arityOf (offeredArities (a .predicates) (a .arities)) (a .l .predicate)) (a .v) (a .l .x) ≡ false =
     ap (λ (n : ℕ). properArgument 0 n (a .v) (a .l .x)) (sym (c .before .before .arity-of .ensures)) ∙ sym (c .before .proper-argument .ensures) ∙ not-true (c .before .proper-argument .result) (c .if3 .taken) in
     sym (literal-proper (a .predicates) (a .arities) (a .v) (a .l) ∙ rw (le-leb _ _ (c .before .before .before .before .before .if1 .left), le-leb _ _ (c .before .before .before .if2 .left), e))
-
-proper-argument-requires-2 : tie.Need-proper-argument-requires-2
-proper-argument-requires-2 c κs = search needs
 
 returns-4 : tie.Need-returns-4
 returns-4 c =
@@ -41,9 +32,6 @@ returns-4 c =
     let f : properArgument 1 (arityOf (offeredArities (a .predicates) (a .arities)) (a .l .predicate)) (a .v) (a .l .y) ≡ false =
     ap (λ (n : ℕ). properArgument 1 n (a .v) (a .l .y)) (sym (c .before .before .before .before .arity-of .ensures)) ∙ sym (c .before .proper-argument2 .ensures) ∙ not-true (c .before .proper-argument2 .result) (c .if4 .taken) in
     sym (literal-proper (a .predicates) (a .arities) (a .v) (a .l) ∙ rw (le-leb _ _ (c .before .before .before .before .before .before .before .if1 .left), le-leb _ _ (c .before .before .before .before .before .if2 .left), e, f))
-
-proper-argument-requires-3 : tie.Need-proper-argument-requires-3
-proper-argument-requires-3 c κs = search needs
 
 returns-5 : tie.Need-returns-5
 returns-5 c =
@@ -61,10 +49,10 @@ proper-literal-spec =
     (tie.spec
     returns
     returns-2
-    arity-of-requires
-    proper-argument-requires
+    (λ c κs. search needs)
+    (λ c κs. search needs)
     returns-3
-    proper-argument-requires-2
+    (λ c κs. search needs)
     returns-4
-    proper-argument-requires-3
+    (λ c κs. search needs)
     returns-5)

@@ -22,29 +22,11 @@ Inv-loop predicates arities c n j₀ j = (j ≤ n) × (allOf (properLiteral (off
 abbrev μ-loop : tie.MeasureT-loop
 μ-loop predicates arities c n j₀ j = n - j
 
-literals-of-requires : tie.Need-literals-of-requires Inv-loop μ-loop
-literals-of-requires c κs = search needs
-
 loop-holds : tie.Need-loop-holds Inv-loop μ-loop
 loop-holds c = (omega arith, refl)
 
-mul-l : tie.Need-mul-l Inv-loop μ-loop
-mul-l c = search needs
-
-element-copy-out-l : tie.Need-element-copy-out-l Inv-loop μ-loop
-element-copy-out-l c = search needs
-
-proper-literal-requires : tie.Need-proper-literal-requires Inv-loop μ-loop
-proper-literal-requires c κs = search needs
-
 returns : tie.Need-returns Inv-loop μ-loop
 returns c = let a = c .before .before .before .before .before .before .args in sym (allOf-fails (properLiteral (offeredArities (a .predicates) (a .arities)) (a .t3 .variables)) (a .t3 .literals) (c .before .before .before .before .loop .j) (a .t3 .literalcount) noLiteral (omega (arith, counted-within (c .before .before .before .before .before .literals-of .ensures))) (omega arith) (sym (c .before .proper-literal .ensures) ∙ not-true (c .before .proper-literal .result) (c .if1 .taken)))
-
-add-j : tie.Need-add-j Inv-loop μ-loop
-add-j c = search needs
-
-loop-less : tie.Need-loop-less Inv-loop μ-loop
-loop-less c = search needs
 
 loop-again : tie.Need-loop-again Inv-loop μ-loop
 loop-again c = let a = c .before .before .before .before .before .before .args in (omega arith, allOf-and (properLiteral (offeredArities (a .predicates) (a .arities)) (a .t3 .variables)) (a .t3 .literals) (c .before .before .before .before .loop .j) noLiteral (omega arith) (c .before .before .before .before .loop .inv .1) (sym (c .before .proper-literal .ensures) ∙ not-false (c .before .proper-literal .result) (c .if1 .left)))
@@ -58,13 +40,13 @@ proper-literals-spec =
     (tie.spec
     Inv-loop
     μ-loop
-    literals-of-requires
+    (λ c κs. search needs)
     loop-holds
-    mul-l
-    element-copy-out-l
-    proper-literal-requires
+    (λ c. search needs)
+    (λ c. search needs)
+    (λ c κs. search needs)
     returns
-    add-j
-    loop-less
+    (λ c. search needs)
+    (λ c. search needs)
     loop-again
     returns-2)

@@ -13,17 +13,11 @@ use Rattle.admission.proofs.Judging.{refusal-is}
 use Rattle.admission.proofs.refusal_of.Statement.{statement}
 use Rattle.admission.proofs.refusal_of.Tie as tie
 
-proper-atoms-requires : tie.Need-proper-atoms-requires
-proper-atoms-requires c κs = search needs
-
 returns : tie.Need-returns
 returns c =
     let a = c .before .before .args in let C = clauseOf (a .c) in
     let p : allOf (properAtom (C .variables)) (C .atoms) ≡ false = sym (c .before .proper-atoms .ensures) ∙ not-true (c .before .proper-atoms .result) (c .if1 .taken) in
     sym (refusal-is (offeredArities (a .predicates) (a .arities)) (a .c) (c .before .before .pre) ∙ rw p)
-
-proper-literals-requires : tie.Need-proper-literals-requires
-proper-literals-requires c κs = search needs
 
 returns-2 : tie.Need-returns-2
 returns-2 c =
@@ -32,9 +26,6 @@ returns-2 c =
     let q : allOf (properLiteral (offeredArities (a .predicates) (a .arities)) (C .variables)) (C .literals) ≡ false = sym (c .before .proper-literals .ensures) ∙ not-true (c .before .proper-literals .result) (c .if2 .taken) in
     sym (refusal-is (offeredArities (a .predicates) (a .arities)) (a .c) (c .before .before .before .before .pre) ∙ rw (p, q))
 
-all-occur-requires : tie.Need-all-occur-requires
-all-occur-requires c κs = search needs
-
 returns-3 : tie.Need-returns-3
 returns-3 c =
     let a = c .before .before .before .before .before .before .args in let C = clauseOf (a .c) in
@@ -42,9 +33,6 @@ returns-3 c =
     let q : allOf (properLiteral (offeredArities (a .predicates) (a .arities)) (C .variables)) (C .literals) ≡ true = sym (c .before .before .before .proper-literals .ensures) ∙ not-false (c .before .before .before .proper-literals .result) (c .before .before .if2 .left) in
     let o : allOf (occursIn (C .atoms) (C .literals)) (upFrom 1 (C .variables)) ≡ false = sym (c .before .all-occur .ensures) ∙ not-true (c .before .all-occur .result) (c .if3 .taken) in
     sym (refusal-is (offeredArities (a .predicates) (a .arities)) (a .c) (c .before .before .before .before .before .before .pre) ∙ rw (p, q, o))
-
-differences-bounded-requires : tie.Need-differences-bounded-requires
-differences-bounded-requires c κs = search needs
 
 returns-4 : tie.Need-returns-4
 returns-4 c =
@@ -68,12 +56,12 @@ pub refusal-of-spec : {M : Type 1} → statement M
 refusal-of-spec =
     tie.close
     (tie.spec
-    proper-atoms-requires
+    (λ c κs. search needs)
     returns
-    proper-literals-requires
+    (λ c κs. search needs)
     returns-2
-    all-occur-requires
+    (λ c κs. search needs)
     returns-3
-    differences-bounded-requires
+    (λ c κs. search needs)
     returns-4
     returns-5)

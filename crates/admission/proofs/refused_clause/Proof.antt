@@ -4,11 +4,8 @@ use borrow.Author.Needs.{needs}
 use Rattle.admission.proofs.refused_clause.Statement.{statement}
 use Rattle.admission.proofs.refused_clause.Tie as tie
 
-no-clause-requires : tie.Need-no-clause-requires
-no-clause-requires c κs = search needs
-
 returns : tie.Need-returns
 returns c = cc
 
 pub refused-clause-spec : {M : Type 1} → statement M
-refused-clause-spec = tie.close (tie.spec no-clause-requires returns)
+refused-clause-spec = tie.close (tie.spec (λ c κs. search needs) returns)

@@ -4,11 +4,8 @@ use borrow.Author.Needs.{needs}
 use Rattle.admission.proofs.refused_table.Statement.{statement}
 use Rattle.admission.proofs.refused_table.Tie as tie
 
-no-table-requires : tie.Need-no-table-requires
-no-table-requires c κs = search needs
-
 returns : tie.Need-returns
 returns c = cc
 
 pub refused-table-spec : {M : Type 1} → statement M
-refused-table-spec = tie.close (tie.spec no-table-requires returns)
+refused-table-spec = tie.close (tie.spec (λ c κs. search needs) returns)

@@ -24,23 +24,11 @@ abbrev μ-loop : tie.MeasureT-loop
 loop-holds : tie.Need-loop-holds Inv-loop μ-loop
 loop-holds c = (omega arith, search needs, refl)
 
-array-read-if1 : tie.Need-array-read-if1 Inv-loop μ-loop
-array-read-if1 c = search needs
-
-cast-if1 : tie.Need-cast-if1 Inv-loop μ-loop
-cast-if1 c = search needs
-
 returns : tie.Need-returns Inv-loop μ-loop
 returns c =
     let a = c .before .before .before .args in
     let h : a .predicates ≤ length (a .t2) = omega arith in
     sym (ap (allOf (λ n. leb n mostArguments)) (exactly-take 0 (a .predicates) (a .t2) h) ∙ allOf-fails (λ n. leb n mostArguments) (a .t2) (c .before .before .loop .j) (a .predicates) 0 (omega arith) (omega arith) (lt-leb _ _ (c .if1 .taken)))
-
-add-j : tie.Need-add-j Inv-loop μ-loop
-add-j c = search needs
-
-loop-less : tie.Need-loop-less Inv-loop μ-loop
-loop-less c = search needs
 
 loop-again : tie.Need-loop-again Inv-loop μ-loop
 loop-again c =
@@ -61,10 +49,10 @@ small-arities-spec =
     Inv-loop
     μ-loop
     loop-holds
-    array-read-if1
-    cast-if1
+    (λ c. search needs)
+    (λ c. search needs)
     returns
-    add-j
-    loop-less
+    (λ c. search needs)
+    (λ c. search needs)
     loop-again
     returns-2)

@@ -10,17 +10,8 @@ use Rattle.clauses.proofs.Records.{under-suc, under-past}
 use Rattle.clauses.proofs.constant_of.Statement.{statement}
 use Rattle.clauses.proofs.constant_of.Tie as tie
 
-returns : tie.Need-returns
-returns c = search needs
-
 returns-2 : tie.Need-returns-2
 returns-2 c = let a = c .before .before .args in sym (under-past (take (a .n) (a .t1)) (a .x) (omega (arith, length-take (a .n) (a .t1))))
-
-sub-k : tie.Need-sub-k
-sub-k c = search needs
-
-array-read-result : tie.Need-array-read-result
-array-read-result c = search needs
 
 returns-3 : tie.Need-returns-3
 returns-3 c = let a = c .before .before .before .args in sym (under-suc (take (a .n) (a .t1)) (a .x) (c .before .before .if1 .left) ∙ getD-take (a .n) (a .t1) (a .x - 1) 0 (omega arith))
@@ -33,4 +24,4 @@ returns-4 c =
 
 pub constant-of-spec : {M : Type 1} → statement M
 constant-of-spec =
-    tie.close (tie.spec returns returns-2 sub-k array-read-result returns-3 returns-4)
+    tie.close (tie.spec (λ c. search needs) returns-2 (λ c. search needs) (λ c. search needs) returns-3 returns-4)

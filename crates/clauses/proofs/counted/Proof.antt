@@ -6,23 +6,14 @@ use borrow.Author.Needs.{needs}
 use Rattle.clauses.proofs.counted.Statement.{statement}
 use Rattle.clauses.proofs.counted.Tie as tie
 
-cast-if1 : tie.Need-cast-if1
-cast-if1 c = search needs
-
 returns : tie.Need-returns
 returns c = simp (lt-leb _ _ (c .if1 .taken))
 
-cast-if2 : tie.Need-cast-if2
-cast-if2 c = search needs
-
 returns-2 : tie.Need-returns-2
 returns-2 c = simp (le-leb _ _ (c .before .before .if1 .left), lt-leb _ _ (c .if2 .taken))
-
-cast-result : tie.Need-cast-result
-cast-result c = search needs
 
 returns-3 : tie.Need-returns-3
 returns-3 c = rw (le-leb _ _ (c .before .before .before .if1 .left), le-leb _ _ (c .before .if2 .left)) refl
 
 pub counted-spec : {M : Type 1} → statement M
-counted-spec = tie.close (tie.spec cast-if1 returns cast-if2 returns-2 cast-result returns-3)
+counted-spec = tie.close (tie.spec (λ c. search needs) returns (λ c. search needs) returns-2 (λ c. search needs) returns-3)

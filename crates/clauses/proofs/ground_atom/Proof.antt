@@ -4,14 +4,8 @@ use borrow.Author.Needs.{needs}
 use Rattle.clauses.proofs.ground_atom.Statement.{statement}
 use Rattle.clauses.proofs.ground_atom.Tie as tie
 
-constant-of-requires : tie.Need-constant-of-requires
-constant-of-requires c κs = search needs
-
-constant-of-requires-2 : tie.Need-constant-of-requires-2
-constant-of-requires-2 c κs = search needs
-
 returns : tie.Need-returns
 returns c = cc
 
 pub ground-atom-spec : {M : Type 1} → statement M
-ground-atom-spec = tie.close (tie.spec constant-of-requires constant-of-requires-2 returns)
+ground-atom-spec = tie.close (tie.spec (λ c κs. search needs) (λ c κs. search needs) returns)

@@ -6,9 +6,6 @@ use Rattle.clauses.proofs.Counts.{counted-all, counted-most}
 use Rattle.clauses.proofs.literals_of.Statement.{statement}
 use Rattle.clauses.proofs.literals_of.Tie as tie
 
-cast-n : tie.Need-cast-n
-cast-n c = search needs
-
 returns : tie.Need-returns
 returns c = counted-all _ _ _ (simp length-map at (c .before .before .good .0 .1 .1 .1 .1 .1 .1 .0 .1 .0 .1)) (omega arith)
 
@@ -16,4 +13,4 @@ returns-2 : tie.Need-returns-2
 returns-2 c = counted-most _ _ _ (simp length-map at (c .before .before .good .0 .1 .1 .1 .1 .1 .1 .0 .1 .0 .1)) (omega arith)
 
 pub literals-of-spec : {M : Type 1} → statement M
-literals-of-spec = tie.close (tie.spec cast-n returns returns-2)
+literals-of-spec = tie.close (tie.spec (λ c. search needs) returns returns-2)

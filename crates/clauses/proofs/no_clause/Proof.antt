@@ -5,15 +5,9 @@ use Rattle.lists.specs.Arrays.{exactly}
 use Rattle.clauses.proofs.no_clause.Statement.{statement}
 use Rattle.clauses.proofs.no_clause.Tie as tie
 
-no-atom-requires : tie.Need-no-atom-requires
-no-atom-requires c κs = search needs
-
-no-literal-requires : tie.Need-no-literal-requires
-no-literal-requires c κs = search needs
-
 returns : tie.Need-returns
 unfolding exactly
 returns c = cc
 
 pub no-clause-spec : {M : Type 1} → statement M
-no-clause-spec = tie.close (tie.spec no-atom-requires no-literal-requires returns)
+no-clause-spec = tie.close (tie.spec (λ c κs. search needs) (λ c κs. search needs) returns)

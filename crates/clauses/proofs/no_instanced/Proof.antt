@@ -5,12 +5,9 @@ use Rattle.lists.specs.Arrays.{exactly}
 use Rattle.clauses.proofs.no_instanced.Statement.{statement}
 use Rattle.clauses.proofs.no_instanced.Tie as tie
 
-no-clause-requires : tie.Need-no-clause-requires
-no-clause-requires c κs = search needs
-
 returns : tie.Need-returns
 unfolding exactly
 returns c = cc
 
 pub no-instanced-spec : {M : Type 1} → statement M
-no-instanced-spec = tie.close (tie.spec no-clause-requires returns)
+no-instanced-spec = tie.close (tie.spec (λ c κs. search needs) returns)

@@ -10,17 +10,11 @@ use Rattle.clauses.specs.Records.{clauseOf}
 use Rattle.clauses.proofs.occurs.Statement.{statement}
 use Rattle.clauses.proofs.occurs.Tie as tie
 
-in-atoms-requires : tie.Need-in-atoms-requires
-in-atoms-requires c κs = search needs
-
 returns : tie.Need-returns
 returns c = let a = c .before .before .args in sym (ap (λ (b : Bool). b || anyOf (λ m. anyOf (eqb (a .x)) (arguments m)) (clauseOf (a .c) .literals)) (sym (c .before .in-atoms .ensures) ∙ c .if1 .taken))
-
-in-literals-requires : tie.Need-in-literals-requires
-in-literals-requires c κs = search needs
 
 returns-2 : tie.Need-returns-2
 returns-2 c = let a = c .before .before .before .args in c .in-literals .ensures ∙ sym (ap (λ (b : Bool). b || anyOf (λ m. anyOf (eqb (a .x)) (arguments m)) (clauseOf (a .c) .literals)) (sym (c .before .before .in-atoms .ensures) ∙ c .before .if1 .left))
 
 pub occurs-spec : {M : Type 1} → statement M
-occurs-spec = tie.close (tie.spec in-atoms-requires returns in-literals-requires returns-2)
+occurs-spec = tie.close (tie.spec (λ c κs. search needs) returns (λ c κs. search needs) returns-2)

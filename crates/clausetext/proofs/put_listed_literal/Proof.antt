@@ -4,18 +4,9 @@ use Rattle.text.proofs.Text.{and-then}
 use Rattle.clausetext.proofs.put_listed_literal.Statement.{statement}
 use Rattle.clausetext.proofs.put_listed_literal.Tie as tie
 
-put-byte-requires : tie.Need-put-byte-requires
-put-byte-requires c κs = search needs
-
-put-literal-requires : tie.Need-put-literal-requires
-put-literal-requires c κs = search needs
-
-same-length : tie.Need-same-length
-same-length c = search needs
-
 returns : tie.Need-returns
 returns c = record { wrote = and-then (c .before .before .before .before .before .before .put-byte .ensures) (c .before .before .put-literal .ensures .wrote); room = search needs }
 
 pub put-listed-literal-spec : {M : Type 1} → statement M
 put-listed-literal-spec =
-    tie.close (tie.spec put-byte-requires put-literal-requires same-length returns)
+    tie.close (tie.spec (λ c κs. search needs) (λ c κs. search needs) (λ c. search needs) returns)

@@ -8,26 +8,8 @@ use Rattle.clausetext.proofs.Literals.{arguments-are, arguments-few}
 use Rattle.clausetext.proofs.put_literal.Statement.{statement}
 use Rattle.clausetext.proofs.put_literal.Tie as tie
 
-put-sign-requires : tie.Need-put-sign-requires
-put-sign-requires c κs = search needs
-
-put-byte-requires : tie.Need-put-byte-requires
-put-byte-requires c κs = search needs
-
-put-number-requires : tie.Need-put-number-requires
-put-number-requires c κs = search needs
-
-arguments-of-requires : tie.Need-arguments-of-requires
-arguments-of-requires c κs = search needs
-
-arguments-shown-requires : tie.Need-arguments-shown-requires
-arguments-shown-requires c κs = search needs
-
 put-tuple-requires : tie.Need-put-tuple-requires
 put-tuple-requires c κs = omega (arith, arguments-few (c .before .before .before .before .before .before .before .before .before .before .before .before .before .before .before .before .args .l) _ _ (c .before .before .arguments-of .ensures) (c .before .arguments-shown .ensures))
-
-same-length : tie.Need-same-length
-same-length c = search needs
 
 returns : tie.Need-returns
 unfolding literalText
@@ -40,11 +22,11 @@ pub put-literal-spec : {M : Type 1} → statement M
 put-literal-spec =
     tie.close
     (tie.spec
-    put-sign-requires
-    put-byte-requires
-    put-number-requires
-    arguments-of-requires
-    arguments-shown-requires
+    (λ c κs. search needs)
+    (λ c κs. search needs)
+    (λ c κs. search needs)
+    (λ c κs. search needs)
+    (λ c κs. search needs)
     put-tuple-requires
-    same-length
+    (λ c. search needs)
     returns)

@@ -15,32 +15,11 @@ Inv-loop out₀ at c n next₀ j₀ out next j = (j ≤ n) × Turned 0 listedLit
 abbrev μ-loop : tie.MeasureT-loop
 μ-loop out₀ at c n next₀ j₀ out next j = n - j
 
-literals-of-requires : tie.Need-literals-of-requires Inv-loop μ-loop
-literals-of-requires c κs = search needs
-
 loop-holds : tie.Need-loop-holds Inv-loop μ-loop
 loop-holds c = (search needs, turned-none _ _ _ _ _ _)
 
-mul-l : tie.Need-mul-l Inv-loop μ-loop
-mul-l c = search needs
-
-element-copy-out-l : tie.Need-element-copy-out-l Inv-loop μ-loop
-element-copy-out-l c = search needs
-
-put-listed-literal-requires : tie.Need-put-listed-literal-requires Inv-loop μ-loop
-put-listed-literal-requires c κs = search needs
-
-add-j : tie.Need-add-j Inv-loop μ-loop
-add-j c = search needs
-
-loop-less : tie.Need-loop-less Inv-loop μ-loop
-loop-less c = search needs
-
 loop-again : tie.Need-loop-again Inv-loop μ-loop
 loop-again c = (search needs, turned-more (c .before .before .before .before .before .before .loop .inv .1) (c .before .before .before .before .before .before .loop .j) noLiteral (search needs) (omega arith) (search needs) (c .before .before .put-listed-literal .ensures))
-
-same-length : tie.Need-same-length Inv-loop μ-loop
-same-length c = search needs
 
 returns : tie.Need-returns Inv-loop μ-loop
 returns c = turned-most (c .before .loop .inv .1) (c .before .before .literals-of .ensures) (search needs) (search needs)
@@ -51,13 +30,13 @@ put-literals-spec =
     (tie.spec
     Inv-loop
     μ-loop
-    literals-of-requires
+    (λ c κs. search needs)
     loop-holds
-    mul-l
-    element-copy-out-l
-    put-listed-literal-requires
-    add-j
-    loop-less
+    (λ c. search needs)
+    (λ c. search needs)
+    (λ c κs. search needs)
+    (λ c. search needs)
+    (λ c. search needs)
     loop-again
-    same-length
+    (λ c. search needs)
     returns)

@@ -15,29 +15,14 @@ Inv-loop out₀ at count numbers n next₀ j₀ out next j = (j ≤ n) × Turned
 abbrev μ-loop : tie.MeasureT-loop
 μ-loop out₀ at count numbers n next₀ j₀ out next j = n - j
 
-constants-of-requires : tie.Need-constants-of-requires Inv-loop μ-loop
-constants-of-requires c κs = search needs
-
 loop-holds : tie.Need-loop-holds Inv-loop μ-loop
 loop-holds c = (search needs, turned-none _ _ _ _ _ _)
-
-array-read-put-listed-number : tie.Need-array-read-put-listed-number Inv-loop μ-loop
-array-read-put-listed-number c = search needs
 
 put-listed-number-requires : tie.Need-put-listed-number-requires Inv-loop μ-loop
 put-listed-number-requires c κs = omega (arith, counted-length (c .before .before .before .constants-of .ensures))
 
-add-j : tie.Need-add-j Inv-loop μ-loop
-add-j c = search needs
-
-loop-less : tie.Need-loop-less Inv-loop μ-loop
-loop-less c = search needs
-
 loop-again : tie.Need-loop-again Inv-loop μ-loop
 loop-again c = (search needs, turned-more (c .before .before .before .before .before .loop .inv .1) (c .before .before .before .before .before .loop .j) 0 (search needs) (omega arith) (search needs) (c .before .before .put-listed-number .ensures))
-
-same-length : tie.Need-same-length Inv-loop μ-loop
-same-length c = search needs
 
 returns : tie.Need-returns Inv-loop μ-loop
 returns c = turned-counted (c .before .loop .inv .1) (c .before .before .constants-of .ensures) (search needs) (search needs)
@@ -48,12 +33,12 @@ put-numbers-spec =
     (tie.spec
     Inv-loop
     μ-loop
-    constants-of-requires
+    (λ c κs. search needs)
     loop-holds
-    array-read-put-listed-number
+    (λ c. search needs)
     put-listed-number-requires
-    add-j
-    loop-less
+    (λ c. search needs)
+    (λ c. search needs)
     loop-again
-    same-length
+    (λ c. search needs)
     returns)

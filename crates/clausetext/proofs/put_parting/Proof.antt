@@ -9,14 +9,8 @@ use Rattle.clausetext.proofs.put_parting.Tie as tie
 returns : tie.Need-returns
 returns c = record { wrote = as-text (parting-first (c .before .before .args .b ∷ []) (c .before .before .args .j) (c .if1 .taken)) (wrote-none _ (c .before .before .args .at)); room = search needs }
 
-put-byte-requires : tie.Need-put-byte-requires
-put-byte-requires c κs = search needs
-
-same-length : tie.Need-same-length
-same-length c = search needs
-
 returns-2 : tie.Need-returns-2
 returns-2 c = record { wrote = as-text (parting-next (c .before .before .before .before .before .before .args .b ∷ []) (c .before .before .before .before .before .before .args .j) (c .before .before .before .before .if1 .left)) (c .before .before .put-byte .ensures); room = search needs }
 
 pub put-parting-spec : {M : Type 1} → statement M
-put-parting-spec = tie.close (tie.spec returns put-byte-requires same-length returns-2)
+put-parting-spec = tie.close (tie.spec returns (λ c κs. search needs) (λ c. search needs) returns-2)

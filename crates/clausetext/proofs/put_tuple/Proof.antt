@@ -5,18 +5,6 @@ use Rattle.clausetext.specs.ClauseText.{tupleText}
 use Rattle.clausetext.proofs.put_tuple.Statement.{statement}
 use Rattle.clausetext.proofs.put_tuple.Tie as tie
 
-put-byte-requires : tie.Need-put-byte-requires
-put-byte-requires c κs = search needs
-
-put-numbers-requires : tie.Need-put-numbers-requires
-put-numbers-requires c κs = search needs
-
-put-byte-requires-2 : tie.Need-put-byte-requires-2
-put-byte-requires-2 c κs = search needs
-
-same-length : tie.Need-same-length
-same-length c = search needs
-
 returns : tie.Need-returns
 unfolding tupleText
 returns c = record { wrote = and-then (and-then (c .before .before .before .before .before .before .before .before .before .before .put-byte .ensures) (c .before .before .before .before .before .before .put-numbers .ensures .wrote)) (c .before .before .put-byte2 .ensures); room = search needs }
@@ -24,4 +12,4 @@ returns c = record { wrote = and-then (and-then (c .before .before .before .befo
 pub put-tuple-spec : {M : Type 1} → statement M
 put-tuple-spec =
     tie.close
-    (tie.spec put-byte-requires put-numbers-requires put-byte-requires-2 same-length returns)
+    (tie.spec (λ c κs. search needs) (λ c κs. search needs) (λ c κs. search needs) (λ c. search needs) returns)

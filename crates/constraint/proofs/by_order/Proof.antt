@@ -14,24 +14,12 @@ use Rattle.constraint.proofs.by_order.Tie as tie
 returns : tie.Need-returns
 returns c = sym (on-diagonal (c .before .args .constants) (c .before .args .i) (c .before .args .j) (c .if1 .taken))
 
-cast-result : tie.Need-cast-result
-cast-result c = search needs
-
-cast-result-2 : tie.Need-cast-result-2
-cast-result-2 c = search needs
-
 sub-result : tie.Need-sub-result
 sub-result c = search (needs, places-fit)
 
 returns-2 : tie.Need-returns-2
 returns-2 c = let a = c .before .before .before .before .args in
     difference-back (a .i) (a .j) (omega arith) (omega arith) ∙ sym (as-ordered (a .constants) (a .i) (a .j) (c .before .before .if2 .taken) (ltb-true (a .i) (a .j) (c .before .if3 .taken)) (leb-true (a .j) (a .constants) (c .if4 .taken)))
-
-stand-after-requires : tie.Need-stand-after-requires
-stand-after-requires c κs = search needs
-
-stand-before-requires : tie.Need-stand-before-requires
-stand-before-requires c κs = search needs
 
 -- Both counts together are at most 32.
 few : (c : tie.After-stand-before) → c .before .stand-after .result + c .stand-before .result ≤ 32
@@ -59,12 +47,12 @@ by-order-spec =
     tie.close
     (tie.spec
     returns
-    cast-result
-    cast-result-2
+    (λ c. search needs)
+    (λ c. search needs)
     sub-result
     returns-2
-    stand-after-requires
-    stand-before-requires
+    (λ c κs. search needs)
+    (λ c κs. search needs)
     add-result
     cast-result-3
     sub-result-2

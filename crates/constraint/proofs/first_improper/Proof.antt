@@ -24,26 +24,8 @@ abbrev μ-loop : tie.MeasureT-loop
 loop-holds : tie.Need-loop-holds Inv-loop μ-loop
 loop-holds c = (omega arith, c .pre, λ j h. absurd (omega arith))
 
-mul-a : tie.Need-mul-a Inv-loop μ-loop
-mul-a c = search needs
-
-array-copy-out-a : tie.Need-array-copy-out-a Inv-loop μ-loop
-array-copy-out-a c = search needs
-
-proper-requires : tie.Need-proper-requires Inv-loop μ-loop
-proper-requires c κs = search needs
-
-add-result : tie.Need-add-result Inv-loop μ-loop
-add-result c = search needs
-
 returns : tie.Need-returns Inv-loop μ-loop
 returns c = improper-at _ _ (c .before .before .before .before .loop .k) _ (search needs) (c .before .before .before .before .loop .inv .2) (subst (Decides _) (not-true (c .before .proper .result) (c .if1 .taken)) (c .before .proper .ensures))
-
-add-k : tie.Need-add-k Inv-loop μ-loop
-add-k c = search needs
-
-loop-less : tie.Need-loop-less Inv-loop μ-loop
-loop-less c = search needs
 
 loop-again : tie.Need-loop-again Inv-loop μ-loop
 loop-again c = (omega arith, search needs, below-more _ _ (c .before .before .before .before .loop .inv .2) (subst (Decides _) (not-false (c .before .proper .result) (c .if1 .left)) (c .before .proper .ensures)))
@@ -58,12 +40,12 @@ first-improper-spec =
     Inv-loop
     μ-loop
     loop-holds
-    mul-a
-    array-copy-out-a
-    proper-requires
-    add-result
+    (λ c. search needs)
+    (λ c. search needs)
+    (λ c κs. search needs)
+    (λ c. search needs)
     returns
-    add-k
-    loop-less
+    (λ c. search needs)
+    (λ c. search needs)
     loop-again
     returns-2)

@@ -10,9 +10,6 @@ use Rattle.constraint.proofs.in_range.Tie as tie
 
 -- Two tests of what the machine reads back of c.
 
-sub-if1 : tie.Need-sub-if1
-sub-if1 c = search needs
-
 returns : tie.Need-returns
 returns c = λ R. clashℤ (ltZ-true (ap (λ (x : ℤ). ltZ x (negsuc 999999)) (sym (toZ-ofZ (c .before .fits .c))) ∙ c .if1 .taken)) (R .low)
 
@@ -24,4 +21,4 @@ returns-3 c = let z = sym (toZ-ofZ (c .before .before .fits .c)) in
     record { low = ltZ-false (ap (λ (x : ℤ). ltZ x (negsuc 999999)) z ∙ c .before .if1 .left); high = ltZ-false (ap (ltZ (pos 1000000)) z ∙ c .if2 .left) }
 
 pub in-range-spec : {M : Type 1} → statement M
-in-range-spec = tie.close (tie.spec sub-if1 returns returns-2 returns-3)
+in-range-spec = tie.close (tie.spec (λ c. search needs) returns returns-2 returns-3)

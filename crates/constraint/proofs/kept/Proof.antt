@@ -49,21 +49,6 @@ ordered-requires c κs = c .pre .few-enough .few-constants
 loop-holds : tie.Need-loop-holds Inv-loop2 μ-loop2 Inv-loop μ-loop
 loop-holds c = (omega arith, c .before .pre, atoms-none (c .before .args .constants) (c .before .args .t3) _ (c .ordered .ensures), search needs)
 
-mul-a : tie.Need-mul-a Inv-loop2 μ-loop2 Inv-loop μ-loop
-mul-a c = search needs
-
-array-copy-out-a : tie.Need-array-copy-out-a Inv-loop2 μ-loop2 Inv-loop μ-loop
-array-copy-out-a c = search needs
-
-cast-p : tie.Need-cast-p Inv-loop2 μ-loop2 Inv-loop μ-loop
-cast-p c = search needs
-
-cast-q : tie.Need-cast-q Inv-loop2 μ-loop2 Inv-loop μ-loop
-cast-q c = search needs
-
-widen-requires : tie.Need-widen-requires Inv-loop2 μ-loop2 Inv-loop μ-loop
-widen-requires c κs = search needs
-
 -- The turn's start, and its atom.
 abbrev turn : tie.After-widen Inv-loop2 μ-loop2 Inv-loop μ-loop → tie.At-loop Inv-loop2 μ-loop2 Inv-loop μ-loop
 turn w = w .before .before .before .before .before .before
@@ -104,12 +89,6 @@ had-is w = back w64 (turn w .loop .inv .2 .sound .small (atom w .p) (atom w .q) 
 tells : (w : tie.After-below-zero Inv-loop2 μ-loop2 Inv-loop μ-loop) → w .below-zero .result ≡ ltZ (atom (w .before .before) .c +ℤ entry (turn (w .before .before) .loop .t) (atom (w .before .before) .q) (atom (w .before .before) .p)) (pos 0)
 tells w = w .below-zero .ensures ∙ ap₂ (λ (x y : ℤ). ltZ (x +ℤ y) (pos 0)) (c-is (w .before .before)) (back w64 (back-small (w .before .before)) (lit< tt))
 
-mul-back : tie.Need-mul-back Inv-loop2 μ-loop2 Inv-loop μ-loop
-mul-back c = search needs
-
-mul-back-2 : tie.Need-mul-back-2 Inv-loop2 μ-loop2 Inv-loop μ-loop
-mul-back-2 c = search needs
-
 index-1-back : tie.Need-index-1-back Inv-loop2 μ-loop2 Inv-loop μ-loop
 index-1-back c = omega (arith, p-fits c, q-fits c)
 
@@ -122,12 +101,6 @@ below-zero-requires c κs = (c-within (c .before), back-within (c .before))
 returns : tie.Need-returns Inv-loop2 μ-loop2 Inv-loop μ-loop
 returns c = let w = c .before .before .before in
     answer-no _ _ _ (turn w .loop .inv .1) (turn w .loop .k) (search needs) (turn w .loop .t) (turn w .loop .inv .2) (sym (tells (c .before)) ∙ c .if1 .taken)
-
-mul-if2 : tie.Need-mul-if2 Inv-loop2 μ-loop2 Inv-loop μ-loop
-mul-if2 c = search needs
-
-mul-if2-2 : tie.Need-mul-if2-2 Inv-loop2 μ-loop2 Inv-loop μ-loop
-mul-if2-2 c = search needs
 
 index-1-if2 : tie.Need-index-1-if2 Inv-loop2 μ-loop2 Inv-loop μ-loop
 index-1-if2 c = let w = c .before .before .before in omega (arith, p-fits w, q-fits w)
@@ -179,9 +152,6 @@ old-is : (w : tie.In-loop2 Inv-loop2 μ-loop2 Inv-loop μ-loop) → let s = w .b
     toZ w64 (ofZ w64 (entry (s .loop2 .t) (s .loop2 .i) (atom u .q))) ≡ entry (old s) (s .loop2 .i) (atom u .q)
 old-is w = let u = posed (w .before) in back w64 (small w (atom u .q) (q-fits u)) (lit< tt) ∙ ap (λ (row : List ℤ). at row (atom u .q)) (row-is (w .before))
 
-mul-start : tie.Need-mul-start Inv-loop2 μ-loop2 Inv-loop μ-loop
-mul-start c = search needs
-
 mul-start-2 : tie.Need-mul-start-2 Inv-loop2 μ-loop2 Inv-loop μ-loop
 mul-start-2 c = let h = p-fits (posed (c .before)) in search needs
 
@@ -194,23 +164,11 @@ index-2-start c = omega (arith, p-fits (posed (c .before)))
 add-start : tie.Need-add-start Inv-loop2 μ-loop2 Inv-loop μ-loop
 add-start c = sum-fits w64 (start-small (c .before)) (step-small (c .before)) (lit< tt)
 
-mul-if3 : tie.Need-mul-if3 Inv-loop2 μ-loop2 Inv-loop μ-loop
-mul-if3 c = search needs
-
-mul-if3-2 : tie.Need-mul-if3-2 Inv-loop2 μ-loop2 Inv-loop μ-loop
-mul-if3-2 c = search needs
-
 index-1-if3 : tie.Need-index-1-if3 Inv-loop2 μ-loop2 Inv-loop μ-loop
 index-1-if3 c = let u = posed (c .before .before) in omega (arith, p-fits u, q-fits u)
 
 index-2-if3 : tie.Need-index-2-if3 Inv-loop2 μ-loop2 Inv-loop μ-loop
 index-2-if3 c = let u = posed (c .before .before) in omega (arith, p-fits u, q-fits u)
-
-mul-row : tie.Need-mul-row Inv-loop2 μ-loop2 Inv-loop μ-loop
-mul-row c = search needs
-
-array-copy-out-row : tie.Need-array-copy-out-row Inv-loop2 μ-loop2 Inv-loop μ-loop
-array-copy-out-row c = search needs
 
 lowered-row-requires : tie.Need-lowered-row-requires Inv-loop2 μ-loop2 Inv-loop μ-loop
 lowered-row-requires c κs = let w = c .before .before .before .before in
@@ -218,18 +176,6 @@ lowered-row-requires c κs = let w = c .before .before .before .before in
       λ j h. sound (w .before) .small _ j (omega (arith, p-fits u, q-fits u)) h,
       subst (Within mostChain) (sym (sum-back w64 (start-small w) (step-small w) (lit< tt))) (within-sum (start-small w) (step-small w)),
     )
-
-mul-t : tie.Need-mul-t Inv-loop2 μ-loop2 Inv-loop μ-loop
-mul-t c = search needs
-
-array-set-from-t : tie.Need-array-set-from-t Inv-loop2 μ-loop2 Inv-loop μ-loop
-array-set-from-t c = search needs
-
-add-i : tie.Need-add-i Inv-loop2 μ-loop2 Inv-loop μ-loop
-add-i c = search needs
-
-loop2-less : tie.Need-loop2-less Inv-loop2 μ-loop2 Inv-loop μ-loop
-loop2-less c = search needs
 
 loop2-again : tie.Need-loop2-again Inv-loop2 μ-loop2 Inv-loop μ-loop
 loop2-again c = let w = c .before .before .before in
@@ -245,12 +191,6 @@ loop2-again c = let w = c .before .before .before in
           (ltZ-false (sym (ap₂ ltZ (start-is w) (old-is w)) ∙ h .0 .left)) j hj)))
           (c .if3 .came),
     )
-
-add-k : tie.Need-add-k Inv-loop2 μ-loop2 Inv-loop μ-loop
-add-k c = search needs
-
-loop-less : tie.Need-loop-less Inv-loop2 μ-loop2 Inv-loop μ-loop
-loop-less c = search needs
 
 loop-again : tie.Need-loop-again Inv-loop2 μ-loop2 Inv-loop μ-loop
 loop-again c = let w = c .before .before .before .before .before in
@@ -282,42 +222,42 @@ kept-spec =
     μ-loop
     ordered-requires
     loop-holds
-    mul-a
-    array-copy-out-a
-    cast-p
-    cast-q
-    widen-requires
-    mul-back
-    mul-back-2
+    (λ c. search needs)
+    (λ c. search needs)
+    (λ c. search needs)
+    (λ c. search needs)
+    (λ c κs. search needs)
+    (λ c. search needs)
+    (λ c. search needs)
     index-1-back
     index-2-back
     below-zero-requires
     returns
-    mul-if2
-    mul-if2-2
+    (λ c. search needs)
+    (λ c. search needs)
     index-1-if2
     index-2-if2
     mul-via
     array-copy-out-via
     loop2-holds
-    mul-start
+    (λ c. search needs)
     mul-start-2
     index-1-start
     index-2-start
     add-start
-    mul-if3
-    mul-if3-2
+    (λ c. search needs)
+    (λ c. search needs)
     index-1-if3
     index-2-if3
-    mul-row
-    array-copy-out-row
+    (λ c. search needs)
+    (λ c. search needs)
     lowered-row-requires
-    mul-t
-    array-set-from-t
-    add-i
-    loop2-less
+    (λ c. search needs)
+    (λ c. search needs)
+    (λ c. search needs)
+    (λ c. search needs)
     loop2-again
-    add-k
-    loop-less
+    (λ c. search needs)
+    (λ c. search needs)
     loop-again
     returns-2)

@@ -28,35 +28,11 @@ abbrev μ-loop : tie.MeasureT-loop
 loop-holds : tie.Need-loop-holds Inv-loop μ-loop
 loop-holds c = (omega arith, search needs, upto-none (pos 0) _ _)
 
-mul-on : tie.Need-mul-on Inv-loop μ-loop
-mul-on c = search needs
-
-array-copy-out-on : tie.Need-array-copy-out-on Inv-loop μ-loop
-array-copy-out-on c = search needs
-
-mul-old : tie.Need-mul-old Inv-loop μ-loop
-mul-old c = search needs
-
-array-copy-out-old : tie.Need-array-copy-out-old Inv-loop μ-loop
-array-copy-out-old c = search needs
-
 lowered-requires : tie.Need-lowered-requires Inv-loop μ-loop
 lowered-requires c κs = (
   subst (Within mostChain) (sym (toZ-ofZ (c .before .before .before .before .fits .start))) (c .before .before .before .before .pre .1),
   subst (Within far) (sym (toZ-ofZ {w = w64} (sfits-of (c .before .on .given)))) (c .before .before .before .before .pre .0 (c .before .before .before .loop .j) (search needs)),
 )
-
-mul-out : tie.Need-mul-out Inv-loop μ-loop
-mul-out c = search needs
-
-array-set-from-out : tie.Need-array-set-from-out Inv-loop μ-loop
-array-set-from-out c = search needs
-
-add-j : tie.Need-add-j Inv-loop μ-loop
-add-j c = search needs
-
-loop-less : tie.Need-loop-less Inv-loop μ-loop
-loop-less c = search needs
 
 loop-again : tie.Need-loop-again Inv-loop μ-loop
 loop-again c = (
@@ -78,14 +54,14 @@ lowered-row-spec =
     Inv-loop
     μ-loop
     loop-holds
-    mul-on
-    array-copy-out-on
-    mul-old
-    array-copy-out-old
+    (λ c. search needs)
+    (λ c. search needs)
+    (λ c. search needs)
+    (λ c. search needs)
     lowered-requires
-    mul-out
-    array-set-from-out
-    add-j
-    loop-less
+    (λ c. search needs)
+    (λ c. search needs)
+    (λ c. search needs)
+    (λ c. search needs)
     loop-again
     returns)

@@ -24,18 +24,6 @@ loop-holds c = (omega arith, search needs, upto-none [] _ _)
 ordered-row-requires : tie.Need-ordered-row-requires Inv-loop μ-loop
 ordered-row-requires c κs = (search needs, search needs)
 
-mul-t : tie.Need-mul-t Inv-loop μ-loop
-mul-t c = search needs
-
-array-set-from-t : tie.Need-array-set-from-t Inv-loop μ-loop
-array-set-from-t c = search needs
-
-add-i : tie.Need-add-i Inv-loop μ-loop
-add-i c = search needs
-
-loop-less : tie.Need-loop-less Inv-loop μ-loop
-loop-less c = search needs
-
 loop-again : tie.Need-loop-again Inv-loop μ-loop
 loop-again c = (omega arith, c .before .before .loop .inv .1, upto-set [] _ (c .before .before .loop .inv .2) (omega arith) (c .ordered-row .ensures))
 
@@ -50,9 +38,9 @@ ordered-spec =
     μ-loop
     loop-holds
     ordered-row-requires
-    mul-t
-    array-set-from-t
-    add-i
-    loop-less
+    (λ c. search needs)
+    (λ c. search needs)
+    (λ c. search needs)
+    (λ c. search needs)
     loop-again
     returns)

@@ -25,18 +25,6 @@ loop-holds c = (omega arith, search needs, upto-none (pos 0) _ _)
 by-order-requires : tie.Need-by-order-requires Inv-loop μ-loop
 by-order-requires c κs = (search needs, search needs, search needs)
 
-mul-row : tie.Need-mul-row Inv-loop μ-loop
-mul-row c = search needs
-
-array-set-from-row : tie.Need-array-set-from-row Inv-loop μ-loop
-array-set-from-row c = search needs
-
-add-j : tie.Need-add-j Inv-loop μ-loop
-add-j c = search needs
-
-loop-less : tie.Need-loop-less Inv-loop μ-loop
-loop-less c = search needs
-
 loop-again : tie.Need-loop-again Inv-loop μ-loop
 loop-again c = (omega arith, c .before .before .loop .inv .1, upto-set (pos 0) _ (c .before .before .loop .inv .2) (omega arith) (toZ-ofZ {w = w64} (sfits-of (c .by-order .ok)) ∙ c .by-order .ensures))
 
@@ -51,9 +39,9 @@ ordered-row-spec =
     μ-loop
     loop-holds
     by-order-requires
-    mul-row
-    array-set-from-row
-    add-j
-    loop-less
+    (λ c. search needs)
+    (λ c. search needs)
+    (λ c. search needs)
+    (λ c. search needs)
     loop-again
     returns)

@@ -16,9 +16,6 @@ returns c = Refusal.too-many (λ h. omega (arith, h .few-constants))
 returns-2 : tie.Need-returns-2
 returns-2 c = Refusal.too-many (λ h. omega (arith, h .few-atoms))
 
-first-improper-requires : tie.Need-first-improper-requires
-first-improper-requires c κs = search needs
-
 cast-t8 : tie.Need-cast-t8
 cast-t8 c = omega (arith, improper-most _ (c .before .before .before .before .args .count) _ (c .before .first-improper .result) (c .before .first-improper .ensures))
 
@@ -40,7 +37,7 @@ possible-spec =
     (tie.spec
     returns
     returns-2
-    first-improper-requires
+    (λ c κs. search needs)
     cast-t8
     returns-3
     kept-requires

@@ -13,27 +13,6 @@ use Rattle.constraint.proofs.proper.Tie as tie
 
 -- Each return but the last shows one fault; the last leaves the range to decide.
 
-cast-p : tie.Need-cast-p
-cast-p c = search needs
-
-cast-q : tie.Need-cast-q
-cast-q c = search needs
-
-returns : tie.Need-returns
-returns c = search needs
-
-returns-2 : tie.Need-returns-2
-returns-2 c = search needs
-
-add-if3 : tie.Need-add-if3
-add-if3 c = search needs
-
-returns-3 : tie.Need-returns-3
-returns-3 c = search needs
-
-in-range-requires : tie.Need-in-range-requires
-in-range-requires c κs = search needs
-
 returns-4 : tie.Need-returns-4
 returns-4 c = proper-by-range _ (c .before .before .before .before .before .before .before .args .a) (c .in-range .result) (search needs) (search needs) (omega arith)
     (subst (λ (x : ℤ). Decides (InRange x) (c .in-range .result)) (toZ-ofZ {w = w32} (sfits-of (c .before .struct-told .given .1 .1 .0 .1))) (c .in-range .ensures))
@@ -41,4 +20,4 @@ returns-4 c = proper-by-range _ (c .before .before .before .before .before .befo
 pub proper-spec : {M : Type 1} → statement M
 proper-spec =
     tie.close
-    (tie.spec cast-p cast-q returns returns-2 add-if3 returns-3 in-range-requires returns-4)
+    (tie.spec (λ c. search needs) (λ c. search needs) (λ c. search needs) (λ c. search needs) (λ c. search needs) (λ c. search needs) (λ c κs. search needs) returns-4)

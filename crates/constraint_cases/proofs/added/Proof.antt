@@ -15,32 +15,8 @@ Inv-loop line a atoms₀ used₀ counter₀ end atoms used counter = (counter �
 abbrev μ-loop : tie.MeasureT-loop
 μ-loop line a atoms₀ used₀ counter₀ end atoms used counter = end - counter
 
-atoms-of-requires : tie.Need-atoms-of-requires Inv-loop μ-loop
-atoms-of-requires c κs = search needs
-
-loop-holds : tie.Need-loop-holds Inv-loop μ-loop
-loop-holds c = search needs
-
-mul-atoms : tie.Need-mul-atoms Inv-loop μ-loop
-mul-atoms c = search needs
-
-array-set-from-atoms : tie.Need-array-set-from-atoms Inv-loop μ-loop
-array-set-from-atoms c = search needs
-
-add-used : tie.Need-add-used Inv-loop μ-loop
-add-used c = search needs
-
-add-counter : tie.Need-add-counter Inv-loop μ-loop
-add-counter c = search needs
-
-loop-less : tie.Need-loop-less Inv-loop μ-loop
-loop-less c = search needs
-
 loop-again : tie.Need-loop-again Inv-loop μ-loop
 loop-again c = ⊎-elim (λ w. (omega arith, ap length (w .1) ∙ simp length-set (c .before .before .loop .inv .1))) (λ w. (omega arith, ap length (w .1) ∙ c .before .before .loop .inv .1)) (c .if1 .came)
-
-returns : tie.Need-returns Inv-loop μ-loop
-returns c = search needs
 
 pub added-spec : {M : Type 1} → statement M
 added-spec =
@@ -48,12 +24,12 @@ added-spec =
     (tie.spec
     Inv-loop
     μ-loop
-    atoms-of-requires
-    loop-holds
-    mul-atoms
-    array-set-from-atoms
-    add-used
-    add-counter
-    loop-less
+    (λ c κs. search needs)
+    (λ c. search needs)
+    (λ c. search needs)
+    (λ c. search needs)
+    (λ c. search needs)
+    (λ c. search needs)
+    (λ c. search needs)
     loop-again
-    returns)
+    (λ c. search needs))

@@ -14,17 +14,8 @@ use Rattle.constraint_cases.proofs.with_sign.Tie as tie
 negative-fits : (n : ℕ) → n < 2147483648 → SFits w32 (pos 0 -ℤ toZ w32 n)
 negative-fits n h = rw (toZ-pos w32 h) (fits-of w32 {m = n} (record { above = omega (arith, sum (pos 0) (negℤ (pos n)), negated (pos n)); below = omega (arith, sum (pos 0) (negℤ (pos n)), negated (pos n)) }) h)
 
-cast-size : tie.Need-cast-size
-cast-size c = search needs
-
 sub-result : tie.Need-sub-result
 sub-result c = negative-fits (c .before .before .args .line .value % 2147483648) (omega arith)
 
-returns : tie.Need-returns
-returns c = search needs
-
-returns-2 : tie.Need-returns-2
-returns-2 c = search needs
-
 pub with-sign-spec : {M : Type 1} → statement M
-with-sign-spec = tie.close (tie.spec cast-size sub-result returns returns-2)
+with-sign-spec = tie.close (tie.spec (λ c. search needs) sub-result (λ c. search needs) (λ c. search needs))

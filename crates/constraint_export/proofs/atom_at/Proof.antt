@@ -5,24 +5,6 @@ use borrow.Author.Needs.{needs, sfits-of}
 use Rattle.constraint_export.proofs.atom_at.Statement.{statement}
 use Rattle.constraint_export.proofs.atom_at.Tie as tie
 
-add-byte-at : tie.Need-add-byte-at
-add-byte-at c = search needs
-
-byte-at-requires : tie.Need-byte-at-requires
-byte-at-requires c κs = search needs
-
-add-byte-at-2 : tie.Need-add-byte-at-2
-add-byte-at-2 c = search needs
-
-add-byte-at-3 : tie.Need-add-byte-at-3
-add-byte-at-3 c = search needs
-
-byte-at-requires-2 : tie.Need-byte-at-requires-2
-byte-at-requires-2 c κs = search needs
-
-word-at-requires : tie.Need-word-at-requires
-word-at-requires c κs = search needs
-
 returns : tie.Need-returns
 returns c = cc (c .before .before .byte-at .ensures, c .before .byte-at2 .ensures, toZ-ofZ {w = w32} (sfits-of (c .word-at .ok)), c .word-at .ensures)
 
@@ -30,10 +12,10 @@ pub atom-at-spec : {M : Type 1} → statement M
 atom-at-spec =
     tie.close
     (tie.spec
-    add-byte-at
-    byte-at-requires
-    add-byte-at-2
-    add-byte-at-3
-    byte-at-requires-2
-    word-at-requires
+    (λ c. search needs)
+    (λ c κs. search needs)
+    (λ c. search needs)
+    (λ c. search needs)
+    (λ c κs. search needs)
+    (λ c κs. search needs)
     returns)

@@ -21,21 +21,6 @@ abbrev μ-loop : tie.MeasureT-loop
 loop-holds : tie.Need-loop-holds Inv-loop μ-loop
 loop-holds c = (omega arith, search needs, upto-none noAtom _ _)
 
-atom-at-requires : tie.Need-atom-at-requires Inv-loop μ-loop
-atom-at-requires c κs = search needs
-
-mul-atoms : tie.Need-mul-atoms Inv-loop μ-loop
-mul-atoms c = search needs
-
-array-set-from-atoms : tie.Need-array-set-from-atoms Inv-loop μ-loop
-array-set-from-atoms c = search needs
-
-add-k : tie.Need-add-k Inv-loop μ-loop
-add-k c = search needs
-
-loop-less : tie.Need-loop-less Inv-loop μ-loop
-loop-less c = search needs
-
 loop-again : tie.Need-loop-again Inv-loop μ-loop
 loop-again c = (omega arith, search needs, upto-set noAtom _ (c .before .before .loop .inv .2) (search needs) (c .atom-at .ensures))
 
@@ -49,10 +34,10 @@ gathered-spec =
     Inv-loop
     μ-loop
     loop-holds
-    atom-at-requires
-    mul-atoms
-    array-set-from-atoms
-    add-k
-    loop-less
+    (λ c κs. search needs)
+    (λ c. search needs)
+    (λ c. search needs)
+    (λ c. search needs)
+    (λ c. search needs)
     loop-again
     returns)

@@ -8,12 +8,6 @@ use borrow.Author.Needs.{needs}
 use Rattle.fields.proofs.byte_at.Statement.{statement}
 use Rattle.fields.proofs.byte_at.Tie as tie
 
-past-requires : tie.Need-past-requires
-past-requires c κs = search needs
-
-enum-known-end : tie.Need-enum-known-end
-enum-known-end c = search needs
-
 sub-t5 : tie.Need-sub-t5
 sub-t5 c = let h = field-there 1 (now (c .before .before .before .before .before .args .s)) (c .before .before .before .before .before .args .at) (c .before .end .given .0 .0) (sym (c .before .end .given .1) ∙ c .before .before .before .past .ensures) in omega arith
 
@@ -25,13 +19,10 @@ returns c = let e = sym (c .before .before .end .given .1) ∙ c .before .before
     let h = field-there 1 (now (c .before .before .before .before .before .before .args .s)) (c .before .before .before .before .before .before .args .at) (c .before .before .end .given .0 .0) e in
     number-there 1 (now (c .before .before .before .before .before .before .args .s)) (c .before .before .before .before .before .before .args .at) (c .before .before .end .given .0 .0) e _ (word-one (now (c .before .before .before .before .before .before .args .s)) (c .before .before .end .given .0 .0 - 1) (omega arith))
 
-enum-told : tie.Need-enum-told
-enum-told c = search needs
-
 returns-2 : tie.Need-returns-2
 returns-2 c = number-none 1 (now (c .before .before .before .before .args .s)) (c .before .before .before .before .args .at) (c .before .before .past .result) (c .enum-told .given .0 .0) (c .enum-told .given .0 .1 .0) (c .enum-told .given .1) (c .before .before .past .ensures)
 
 pub byte-at-spec : {M : Type 1} → statement M
 byte-at-spec =
     tie.close
-    (tie.spec past-requires enum-known-end sub-t5 shared-slice-read-t7 returns enum-told returns-2)
+    (tie.spec (λ c κs. search needs) (λ c. search needs) sub-t5 shared-slice-read-t7 returns (λ c. search needs) returns-2)

@@ -12,29 +12,14 @@ use borrow.Author.Needs.{needs}
 use Rattle.fields.proofs.constant_at.Statement.{statement}
 use Rattle.fields.proofs.constant_at.Tie as tie
 
-number-at-requires : tie.Need-number-at-requires
-number-at-requires c κs = search needs
-
-cast-t8 : tie.Need-cast-t8
-cast-t8 c = search needs
-
 returns : tie.Need-returns
 returns c = told-of (constant-small (now (c .before .before .before .args .s)) (c .before .before .before .args .at) (c .before .number-at .result .at) (c .before .number-at .result .value) (told-view (c .before .number-at .ensures)) (c .if1 .taken)) (blank-through (c .before .number-at .result .at) zero (c .before .number-at .result .value) (pos 0) _ (told-blank (c .before .number-at .ensures)) (λ e. ap (toZ w32) e))
-
-sub-below : tie.Need-sub-below
-sub-below c = search needs
-
-cast-t9 : tie.Need-cast-t9
-cast-t9 c = search needs
 
 sub-t10 : tie.Need-sub-t10
 sub-t10 c = minus-fits (4294967295 - c .before .before .number-at .result .value) (omega arith)
 
 returns-2 : tie.Need-returns-2
 returns-2 c = told-of (constant-large (now (c .before .before .before .before .args .s)) (c .before .before .before .before .args .at) (c .before .before .number-at .result .at) (c .before .before .number-at .result .value) (told-view (c .before .before .number-at .ensures)) (c .if2 .taken) (search needs)) (blank-through (c .before .before .number-at .result .at) zero (c .before .before .number-at .result .value) (pos 0) _ (told-blank (c .before .before .number-at .ensures)) (λ e. let h = c .if2 .taken in absurd (omega arith)))
-
-refuse-requires : tie.Need-refuse-requires
-refuse-requires c κs = search needs
 
 returns-3 : tie.Need-returns-3
 returns-3 c = rw (c .refuse .ensures) (told-refused (constant-middle (now (c .before .before .before .before .before .args .s)) (c .before .before .before .before .before .args .at) (c .before .before .before .number-at .result .at) (c .before .before .before .number-at .result .value) (told-view (c .before .before .before .number-at .ensures)) (c .before .before .if1 .left) (c .before .if2 .left) (pos 0)))
@@ -43,12 +28,12 @@ pub constant-at-spec : {M : Type 1} → statement M
 constant-at-spec =
     tie.close
     (tie.spec
-    number-at-requires
-    cast-t8
+    (λ c κs. search needs)
+    (λ c. search needs)
     returns
-    sub-below
-    cast-t9
+    (λ c. search needs)
+    (λ c. search needs)
     sub-t10
     returns-2
-    refuse-requires
+    (λ c κs. search needs)
     returns-3)

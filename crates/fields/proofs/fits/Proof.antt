@@ -12,9 +12,6 @@ use Rattle.fields.proofs.fits.Tie as tie
 returns : tie.Need-returns
 returns c = sym (lt-leb (c .before .args .i + c .before .args .n) (length (now (c .before .args .s))) (omega arith))
 
-sub-if2 : tie.Need-sub-if2
-sub-if2 c = search needs
-
 returns-2 : tie.Need-returns-2
 returns-2 c = sym (lt-leb (c .before .before .args .i + c .before .before .args .n) (length (now (c .before .before .args .s))) (omega arith))
 
@@ -22,4 +19,4 @@ returns-3 : tie.Need-returns-3
 returns-3 c = sym (le-leb (c .before .before .args .i + c .before .before .args .n) (length (now (c .before .before .args .s))) (omega arith))
 
 pub fits-spec : {M : Type 1} → statement M
-fits-spec = tie.close (tie.spec returns sub-if2 returns-2 returns-3)
+fits-spec = tie.close (tie.spec returns (λ c. search needs) returns-2 returns-3)

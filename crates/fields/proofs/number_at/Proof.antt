@@ -7,12 +7,6 @@ use borrow.Author.Needs.{needs}
 use Rattle.fields.proofs.number_at.Statement.{statement}
 use Rattle.fields.proofs.number_at.Tie as tie
 
-past-requires : tie.Need-past-requires
-past-requires c κs = search needs
-
-enum-known-end : tie.Need-enum-known-end
-enum-known-end c = search needs
-
 sub-word : tie.Need-sub-word
 sub-word c = let h = field-there (c .before .before .before .before .before .args .n) (now (c .before .before .before .before .before .args .s)) (c .before .before .before .before .before .args .at) (c .before .end .given .0 .0) (sym (c .before .end .given .1) ∙ c .before .before .before .past .ensures) in omega arith
 
@@ -22,13 +16,10 @@ word-requires c κs = let h = field-there (c .before .before .before .before .be
 returns : tie.Need-returns
 returns c = number-there (c .before .before .before .before .before .before .args .n) (now (c .before .before .before .before .before .before .args .s)) (c .before .before .before .before .before .before .args .at) (c .before .before .end .given .0 .0) (sym (c .before .before .end .given .1) ∙ c .before .before .before .before .past .ensures) (c .word .result) (c .word .ensures)
 
-enum-told : tie.Need-enum-told
-enum-told c = search needs
-
 returns-2 : tie.Need-returns-2
 returns-2 c = number-none (c .before .before .before .before .args .n) (now (c .before .before .before .before .args .s)) (c .before .before .before .before .args .at) (c .before .before .past .result) (c .enum-told .given .0 .0) (c .enum-told .given .0 .1 .0) (c .enum-told .given .1) (c .before .before .past .ensures)
 
 pub number-at-spec : {M : Type 1} → statement M
 number-at-spec =
     tie.close
-    (tie.spec past-requires enum-known-end sub-word word-requires returns enum-told returns-2)
+    (tie.spec (λ c κs. search needs) (λ c. search needs) sub-word word-requires returns (λ c. search needs) returns-2)

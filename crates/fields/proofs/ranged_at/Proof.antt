@@ -7,20 +7,8 @@ use borrow.Author.Needs.{needs}
 use Rattle.fields.proofs.ranged_at.Statement.{statement}
 use Rattle.fields.proofs.ranged_at.Tie as tie
 
-byte-at-requires : tie.Need-byte-at-requires
-byte-at-requires c κs = search needs
-
-cast-in-range : tie.Need-cast-in-range
-cast-in-range c = search needs
-
-in-range-requires : tie.Need-in-range-requires
-in-range-requires c κs = search needs
-
 returns : tie.Need-returns
 returns c = (ranged-held (now (c .before .before .before .before .args .s)) (c .before .before .before .before .args .at) (c .before .before .byte-at .result .at) (c .before .before .byte-at .result .value) (c .before .before .before .before .args .least) (c .before .before .before .before .args .most) (c .before .before .byte-at .ensures) (c .before .before .before .before .args .number) (sym (c .before .in-range .ensures) ∙ c .if1 .taken), between-most (c .before .before .before .before .args .least) (c .before .before .before .before .args .most) (c .before .before .byte-at .result .value) (sym (c .before .in-range .ensures) ∙ c .if1 .taken))
-
-refuse-requires : tie.Need-refuse-requires
-refuse-requires c κs = search needs
 
 returns-2 : tie.Need-returns-2
 returns-2 c = (rw (c .refuse .ensures) (ranged-refused (now (c .before .before .before .before .before .args .s)) (c .before .before .before .before .before .args .at) (c .before .before .before .byte-at .result .at) (c .before .before .before .byte-at .result .value) (c .before .before .before .before .before .args .least) (c .before .before .before .before .before .args .most) (c .before .before .before .byte-at .ensures) (c .before .before .before .before .before .args .number) (sym (c .before .before .in-range .ensures) ∙ c .before .if1 .left) (search needs)), omega arith)
@@ -28,4 +16,4 @@ returns-2 c = (rw (c .refuse .ensures) (ranged-refused (now (c .before .before .
 pub ranged-at-spec : {M : Type 1} → statement M
 ranged-at-spec =
     tie.close
-    (tie.spec byte-at-requires cast-in-range in-range-requires returns refuse-requires returns-2)
+    (tie.spec (λ c κs. search needs) (λ c. search needs) (λ c κs. search needs) returns (λ c κs. search needs) returns-2)

@@ -6,17 +6,11 @@ use borrow.Author.Needs.{needs}
 use Rattle.fields.proofs.version_at.Statement.{statement}
 use Rattle.fields.proofs.version_at.Tie as tie
 
-number-at-requires : tie.Need-number-at-requires
-number-at-requires c κs = search needs
-
 returns : tie.Need-returns
 returns c = version-held (now (c .before .before .before .before .args .s)) (c .before .before .before .before .args .at) (c .before .before .number-at .result .at) (c .before .before .number-at .result .value) (told-view (c .before .before .number-at .ensures)) (c .if1 .taken)
-
-refuse-requires : tie.Need-refuse-requires
-refuse-requires c κs = search needs
 
 returns-2 : tie.Need-returns-2
 returns-2 c = rw (c .refuse .ensures) (version-refused (now (c .before .before .before .before .before .args .s)) (c .before .before .before .before .before .args .at) (c .before .before .before .number-at .result .at) (c .before .before .before .number-at .result .value) (told-view (c .before .before .before .number-at .ensures)) (c .before .if1 .left))
 
 pub version-at-spec : {M : Type 1} → statement M
-version-at-spec = tie.close (tie.spec number-at-requires returns refuse-requires returns-2)
+version-at-spec = tie.close (tie.spec (λ c κs. search needs) returns (λ c κs. search needs) returns-2)

@@ -19,32 +19,11 @@ abbrev μ-loop : tie.MeasureT-loop
 loop-holds : tie.Need-loop-holds Inv-loop μ-loop
 loop-holds c = (omega arith, refl, omega arith)
 
-sub-k : tie.Need-sub-k Inv-loop μ-loop
-sub-k c = search needs
-
-sub-k-2 : tie.Need-sub-k-2 Inv-loop μ-loop
-sub-k-2 c = search needs
-
-add-widened : tie.Need-add-widened Inv-loop μ-loop
-add-widened c = search needs
-
-shared-slice-read-widened : tie.Need-shared-slice-read-widened Inv-loop μ-loop
-shared-slice-read-widened c = search needs
-
-widened-requires : tie.Need-widened-requires Inv-loop μ-loop
-widened-requires c κs = search needs
-
 mul-value : tie.Need-mul-value Inv-loop μ-loop
 mul-value c = let h = word-fits (c .before .before .before .loop .j) (c .before .before .before .loop .value) (omega arith) (c .before .before .before .loop .inv .2) in omega arith
 
 add-value : tie.Need-add-value Inv-loop μ-loop
 add-value c = let h = word-fits (c .before .before .before .loop .j) (c .before .before .before .loop .value) (omega arith) (c .before .before .before .loop .inv .2) in omega arith
-
-add-j : tie.Need-add-j Inv-loop μ-loop
-add-j c = search needs
-
-loop-less : tie.Need-loop-less Inv-loop μ-loop
-loop-less c = search needs
 
 loop-again : tie.Need-loop-again Inv-loop μ-loop
 loop-again c = (
@@ -65,14 +44,14 @@ word-spec =
     Inv-loop
     μ-loop
     loop-holds
-    sub-k
-    sub-k-2
-    add-widened
-    shared-slice-read-widened
-    widened-requires
+    (λ c. search needs)
+    (λ c. search needs)
+    (λ c. search needs)
+    (λ c. search needs)
+    (λ c κs. search needs)
     mul-value
     add-value
-    add-j
-    loop-less
+    (λ c. search needs)
+    (λ c. search needs)
     loop-again
     returns)

@@ -13,26 +13,8 @@ Inv-loop s at next₀ i₀ next i = length next ≡ 64
 abbrev μ-loop : tie.MeasureT-loop
 μ-loop s at next₀ i₀ next i = length s - i
 
-loop-holds : tie.Need-loop-holds Inv-loop μ-loop
-loop-holds c = search needs
-
-number-requires : tie.Need-number-requires Inv-loop μ-loop
-number-requires c κs = search needs
-
-number-requires-2 : tie.Need-number-requires-2 Inv-loop μ-loop
-number-requires-2 c κs = search needs
-
-changed-requires : tie.Need-changed-requires Inv-loop μ-loop
-changed-requires c κs = search needs
-
 loop-less : tie.Need-loop-less Inv-loop μ-loop
 loop-less c = omega (arith, c .before .before .number .ensures .1 (c .before .before .before .loop-test .taken), c .before .number2 .ensures .0)
-
-loop-again : tie.Need-loop-again Inv-loop μ-loop
-loop-again c = search needs
-
-returns : tie.Need-returns Inv-loop μ-loop
-returns c = search needs
 
 pub damaged-spec : {M : Type 1} → statement M
 damaged-spec =
@@ -40,10 +22,10 @@ damaged-spec =
     (tie.spec
     Inv-loop
     μ-loop
-    loop-holds
-    number-requires
-    number-requires-2
-    changed-requires
+    (λ c. search needs)
+    (λ c κs. search needs)
+    (λ c κs. search needs)
+    (λ c κs. search needs)
     loop-less
-    loop-again
-    returns)
+    (λ c. search needs)
+    (λ c. search needs))

@@ -11,22 +11,7 @@ Inv-loop s at₀ at = at ≤ at
 abbrev μ-loop : tie.MeasureT-loop
 μ-loop s at₀ at = length s - at
 
-loop-holds : tie.Need-loop-holds Inv-loop μ-loop
-loop-holds c = search needs
-
-print-packed-requires : tie.Need-print-packed-requires Inv-loop μ-loop
-print-packed-requires c κs = search needs
-
-loop-less : tie.Need-loop-less Inv-loop μ-loop
-loop-less c = search needs
-
-loop-again : tie.Need-loop-again Inv-loop μ-loop
-loop-again c = search needs
-
-returns : tie.Need-returns Inv-loop μ-loop
-returns c = search needs
-
 pub print-all-packed-spec : {M : Type 1} → statement M
 print-all-packed-spec =
     tie.close
-    (tie.spec Inv-loop μ-loop loop-holds print-packed-requires loop-less loop-again returns)
+    (tie.spec Inv-loop μ-loop (λ c. search needs) (λ c κs. search needs) (λ c. search needs) (λ c. search needs) (λ c. search needs))

@@ -17,26 +17,8 @@ Inv-loop s n v count atoms₀ end₀ j₀ atoms end j = (j ≤ count) × Fills m
 abbrev μ-loop : tie.MeasureT-loop
 μ-loop s n v count atoms₀ end₀ j₀ atoms end j = count - j
 
-no-atom-requires : tie.Need-no-atom-requires Inv-loop μ-loop
-no-atom-requires c κs = search needs
-
 loop-holds : tie.Need-loop-holds Inv-loop μ-loop
 loop-holds c = (omega arith, rw (c .no-atom .ensures) (fills-none (c .before .before .args .at)))
-
-atom-at-requires : tie.Need-atom-at-requires Inv-loop μ-loop
-atom-at-requires c κs = search needs
-
-mul-atoms : tie.Need-mul-atoms Inv-loop μ-loop
-mul-atoms c = search needs
-
-array-set-from-atoms : tie.Need-array-set-from-atoms Inv-loop μ-loop
-array-set-from-atoms c = search needs
-
-add-j : tie.Need-add-j Inv-loop μ-loop
-add-j c = search needs
-
-loop-less : tie.Need-loop-less Inv-loop μ-loop
-loop-less c = search needs
 
 loop-again : tie.Need-loop-again Inv-loop μ-loop
 loop-again c = (omega arith, fills-more (c .before .atom-at .result .at) (c .before .atom-at .result .atom) (c .before .before .before .loop .inv .1) (omega arith) (c .before .atom-at .ensures))
@@ -50,12 +32,12 @@ atoms-at-spec =
     (tie.spec
     Inv-loop
     μ-loop
-    no-atom-requires
+    (λ c κs. search needs)
     loop-holds
-    atom-at-requires
-    mul-atoms
-    array-set-from-atoms
-    add-j
-    loop-less
+    (λ c κs. search needs)
+    (λ c. search needs)
+    (λ c. search needs)
+    (λ c. search needs)
+    (λ c. search needs)
     loop-again
     returns)

@@ -11,14 +11,8 @@ use Rattle.header.proofs.clause_at.Tie as tie
 clause-fields-at-requires : tie.Need-clause-fields-at-requires
 clause-fields-at-requires c κs = c .before .pre
 
-admit-clause-requires : tie.Need-admit-clause-requires
-admit-clause-requires c κs = search needs
-
 returns : tie.Need-returns
 returns c = (clause-held (arities (c .before .before .before .before .before .before .args .ps)) (now (c .before .before .before .before .before .before .args .s)) (c .before .before .before .before .clause-fields-at .result .clause) (c .before .before .before .before .clause-fields-at .ensures .1) (c .before .before .before .before .before .before .args .at) (c .before .before .before .before .clause-fields-at .result .at) (c .before .before .before .before .clause-fields-at .ensures .0) (judged-number (c .before .before .before .before .before .before .args .ps) (c .before .before .before .before .clause-fields-at .result .clause) (c .before .admit-clause .result) (c .before .before .before .before .before .before .pre) (c .before .admit-clause .ensures) ∙ c .if1 .taken), c .before .before .before .before .clause-fields-at .ensures .1)
-
-refuse-requires : tie.Need-refuse-requires
-refuse-requires c κs = search needs
 
 returns-2 : tie.Need-returns-2
 returns-2 c =
@@ -31,4 +25,4 @@ returns-2 c =
 pub clause-at-spec : {M : Type 1} → statement M
 clause-at-spec =
     tie.close
-    (tie.spec clause-fields-at-requires admit-clause-requires returns refuse-requires returns-2)
+    (tie.spec clause-fields-at-requires (λ c κs. search needs) returns (λ c κs. search needs) returns-2)

@@ -7,15 +7,6 @@ use borrow.Author.Needs.{needs}
 use Rattle.header.proofs.clause_fields_at.Statement.{statement}
 use Rattle.header.proofs.clause_fields_at.Tie as tie
 
-count-at-requires : tie.Need-count-at-requires
-count-at-requires c κs = search needs
-
-count-at-requires-2 : tie.Need-count-at-requires-2
-count-at-requires-2 c κs = search needs
-
-count-at-requires-3 : tie.Need-count-at-requires-3
-count-at-requires-3 c κs = search needs
-
 atoms-at-requires : tie.Need-atoms-at-requires
 atoms-at-requires c κs = c .before .count-at2 .ensures .1
 
@@ -32,9 +23,9 @@ pub clause-fields-at-spec : {M : Type 1} → statement M
 clause-fields-at-spec =
     tie.close
     (tie.spec
-    count-at-requires
-    count-at-requires-2
-    count-at-requires-3
+    (λ c κs. search needs)
+    (λ c κs. search needs)
+    (λ c κs. search needs)
     atoms-at-requires
     literals-at-requires
     returns)

@@ -22,12 +22,6 @@ abbrev μ-loop : tie.MeasureT-loop
 loop-holds : tie.Need-loop-holds Inv-loop μ-loop
 loop-holds c = (omega arith, ends-none (now (c .before .args .s)) (clause (arities (c .before .args .ps))) (c .before .args .at))
 
-clause-at-requires : tie.Need-clause-at-requires Inv-loop μ-loop
-clause-at-requires c κs = search needs
-
-enum-known-next : tie.Need-enum-known-next Inv-loop μ-loop
-enum-known-next c = search needs
-
 returns : tie.Need-returns Inv-loop μ-loop
 returns c =
     let at-next = c .before in
@@ -35,15 +29,6 @@ returns c =
     let at-loop = at-clause-at .before .before in
     let first = at-loop .before .before in
     let g = at-next .next .given in sym (g .1) ∙ ends-refused (now (first .args .s)) (clause (arities (first .args .ps))) (first .args .at) (at-clause-at .clause-at .result .at) (at-loop .loop .j + 1) (first .args .n) (g .0 .0) (g .0 .1 .0) (g .1) (omega arith) (ends-more (now (first .args .s)) (clause (arities (first .args .ps))) (first .args .at) (at-loop .loop .past) (at-clause-at .clause-at .result .at) (at-loop .loop .j) (at-loop .loop .inv .1) (reached-of (at-clause-at .clause-at .result .at) (clauseOf (at-clause-at .clause-at .result .clause)) (at-clause-at .clause-at .ensures .0)))
-
-enum-told : tie.Need-enum-told Inv-loop μ-loop
-enum-told c = search needs
-
-add-j : tie.Need-add-j Inv-loop μ-loop
-add-j c = search needs
-
-loop-less : tie.Need-loop-less Inv-loop μ-loop
-loop-less c = search needs
 
 loop-again : tie.Need-loop-again Inv-loop μ-loop
 loop-again c = (omega arith, ends-more (now (c .before .before .before .before .before .before .args .s)) (clause (arities (c .before .before .before .before .before .before .args .ps))) (c .before .before .before .before .before .before .args .at) (c .before .before .before .before .loop .past) (c .before .before .clause-at .result .at) (c .before .before .before .before .loop .j) (c .before .before .before .before .loop .inv .1) (reached-of (c .before .before .clause-at .result .at) (clauseOf (c .before .before .clause-at .result .clause)) (c .before .before .clause-at .ensures .0)))
@@ -54,4 +39,4 @@ returns-2 c = let e : c .before .loop .j ≡ c .before .before .before .args .n 
 pub clauses-end-spec : {M : Type 1} → statement M
 clauses-end-spec =
     tie.close
-    (tie.spec Inv-loop μ-loop loop-holds clause-at-requires enum-known-next returns enum-told add-j loop-less loop-again returns-2)
+    (tie.spec Inv-loop μ-loop loop-holds (λ c κs. search needs) (λ c. search needs) returns (λ c. search needs) (λ c. search needs) (λ c. search needs) loop-again returns-2)

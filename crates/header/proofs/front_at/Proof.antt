@@ -8,23 +8,8 @@ use Rattle.header.proofs.front_at.Statement.{statement}
 use Rattle.header.proofs.front_at.Tie as tie
 use Rattle.fields.specs.declared.Cursor.the-variants as C
 
-mark-at-requires : tie.Need-mark-at-requires
-mark-at-requires c κs = search needs
-
-version-at-requires : tie.Need-version-at-requires
-version-at-requires c κs = search needs
-
-count-at-requires : tie.Need-count-at-requires
-count-at-requires c κs = search needs
-
-count-at-requires-2 : tie.Need-count-at-requires-2
-count-at-requires-2 c κs = search needs
-
 predicates-at-requires : tie.Need-predicates-at-requires
 predicates-at-requires c κs = c .count-at2 .ensures .1
-
-count-at-requires-3 : tie.Need-count-at-requires-3
-count-at-requires-3 c κs = search needs
 
 returns : tie.Need-returns
 returns c = record {
@@ -37,10 +22,10 @@ pub front-at-spec : {M : Type 1} → statement M
 front-at-spec =
     tie.close
     (tie.spec
-    mark-at-requires
-    version-at-requires
-    count-at-requires
-    count-at-requires-2
+    (λ c κs. search needs)
+    (λ c κs. search needs)
+    (λ c κs. search needs)
+    (λ c κs. search needs)
     predicates-at-requires
-    count-at-requires-3
+    (λ c κs. search needs)
     returns)

@@ -8,24 +8,6 @@ use borrow.Author.Needs.{needs}
 use Rattle.header.proofs.literal_at.Statement.{statement}
 use Rattle.header.proofs.literal_at.Tie as tie
 
-within-at-requires : tie.Need-within-at-requires
-within-at-requires c κs = search needs
-
-within-at-requires-2 : tie.Need-within-at-requires-2
-within-at-requires-2 c κs = search needs
-
-arity-of-requires : tie.Need-arity-of-requires
-arity-of-requires c κs = search needs
-
-argument-at-requires : tie.Need-argument-at-requires
-argument-at-requires c κs = search needs
-
-argument-at-requires-2 : tie.Need-argument-at-requires-2
-argument-at-requires-2 c κs = search needs
-
-argument-at-requires-3 : tie.Need-argument-at-requires-3
-argument-at-requires-3 c κs = search needs
-
 returns : tie.Need-returns
 returns c =
     let at-argument-at3 = c .before in
@@ -41,10 +23,10 @@ pub literal-at-spec : {M : Type 1} → statement M
 literal-at-spec =
     tie.close
     (tie.spec
-    within-at-requires
-    within-at-requires-2
-    arity-of-requires
-    argument-at-requires
-    argument-at-requires-2
-    argument-at-requires-3
+    (λ c κs. search needs)
+    (λ c κs. search needs)
+    (λ c κs. search needs)
+    (λ c κs. search needs)
+    (λ c κs. search needs)
+    (λ c κs. search needs)
     returns)

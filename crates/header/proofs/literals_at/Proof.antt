@@ -18,26 +18,11 @@ Inv-loop s n ps v count literals₀ end₀ j₀ literals end j = (j ≤ count) �
 abbrev μ-loop : tie.MeasureT-loop
 μ-loop s n ps v count literals₀ end₀ j₀ literals end j = count - j
 
-no-literal-requires : tie.Need-no-literal-requires Inv-loop μ-loop
-no-literal-requires c κs = search needs
-
 loop-holds : tie.Need-loop-holds Inv-loop μ-loop
 loop-holds c = (omega arith, rw (c .no-literal .ensures) (fills-none (c .before .before .args .at)))
 
 literal-at-requires : tie.Need-literal-at-requires Inv-loop μ-loop
 literal-at-requires c κs = c .before .before .before .before .pre .1
-
-mul-literals : tie.Need-mul-literals Inv-loop μ-loop
-mul-literals c = search needs
-
-array-set-from-literals : tie.Need-array-set-from-literals Inv-loop μ-loop
-array-set-from-literals c = search needs
-
-add-j : tie.Need-add-j Inv-loop μ-loop
-add-j c = search needs
-
-loop-less : tie.Need-loop-less Inv-loop μ-loop
-loop-less c = search needs
 
 loop-again : tie.Need-loop-again Inv-loop μ-loop
 loop-again c =
@@ -53,12 +38,12 @@ literals-at-spec =
     (tie.spec
     Inv-loop
     μ-loop
-    no-literal-requires
+    (λ c κs. search needs)
     loop-holds
     literal-at-requires
-    mul-literals
-    array-set-from-literals
-    add-j
-    loop-less
+    (λ c. search needs)
+    (λ c. search needs)
+    (λ c. search needs)
+    (λ c. search needs)
     loop-again
     returns)

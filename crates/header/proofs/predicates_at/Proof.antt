@@ -19,18 +19,6 @@ abbrev μ-loop : tie.MeasureT-loop
 loop-holds : tie.Need-loop-holds Inv-loop μ-loop
 loop-holds c = (omega arith, fills-none (c .before .args .at))
 
-count-at-requires : tie.Need-count-at-requires Inv-loop μ-loop
-count-at-requires c κs = search needs
-
-array-write-slots : tie.Need-array-write-slots Inv-loop μ-loop
-array-write-slots c = search needs
-
-add-j : tie.Need-add-j Inv-loop μ-loop
-add-j c = search needs
-
-loop-less : tie.Need-loop-less Inv-loop μ-loop
-loop-less c = search needs
-
 loop-again : tie.Need-loop-again Inv-loop μ-loop
 loop-again c = (omega arith, fills-more (c .count-at .result .at) (c .count-at .result .value) (c .before .before .loop .inv .1) (omega arith) (told-view (c .count-at .ensures .0)))
 
@@ -44,9 +32,9 @@ predicates-at-spec =
     Inv-loop
     μ-loop
     loop-holds
-    count-at-requires
-    array-write-slots
-    add-j
-    loop-less
+    (λ c κs. search needs)
+    (λ c. search needs)
+    (λ c. search needs)
+    (λ c. search needs)
     loop-again
     returns)

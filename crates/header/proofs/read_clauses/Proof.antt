@@ -17,43 +17,19 @@ Inv-loop s predicates count none clauses₀ past₀ j₀ clauses past j = (j ≤
 abbrev μ-loop : tie.MeasureT-loop
 μ-loop s predicates count none clauses₀ past₀ j₀ clauses past j = count - j
 
-front-at-requires : tie.Need-front-at-requires Inv-loop μ-loop
-front-at-requires c κs = search needs
-
-cast-count : tie.Need-cast-count Inv-loop μ-loop
-cast-count c = search needs
-
-no-clause-requires : tie.Need-no-clause-requires Inv-loop μ-loop
-no-clause-requires c κs = search needs
-
 loop-holds : tie.Need-loop-holds Inv-loop μ-loop
 loop-holds c = (omega arith, rw (c .no-clause .ensures) (stores-none (c .before .before .before .front-at .result .at)))
 
 clause-at-requires : tie.Need-clause-at-requires Inv-loop μ-loop
 clause-at-requires c κs = c .before .before .before .before .before .front-at .ensures .padded
 
-mul-clauses : tie.Need-mul-clauses Inv-loop μ-loop
-mul-clauses c = search needs
-
 array-set-from-clauses : tie.Need-array-set-from-clauses Inv-loop μ-loop
 array-set-from-clauses c = omega (arith, c .before .before .before .before .before .before .before .front-at .ensures .few, c .before .before .loop-test .taken)
-
-add-j : tie.Need-add-j Inv-loop μ-loop
-add-j c = search needs
-
-loop-less : tie.Need-loop-less Inv-loop μ-loop
-loop-less c = search needs
 
 loop-again : tie.Need-loop-again Inv-loop μ-loop
 loop-again c =
     let i = c .before .before .before .before .before .before .before .front-at .ensures .few in
     (omega arith, stores-more (c .before .clause-at .result .at) (c .before .clause-at .result .clause) (c .before .before .before .loop .inv .1) (omega arith) (c .before .clause-at .ensures .0) (c .before .clause-at .ensures .1))
-
-step-count-at-requires : tie.Need-step-count-at-requires Inv-loop μ-loop
-step-count-at-requires c κs = search needs
-
-enum-known-end : tie.Need-enum-known-end Inv-loop μ-loop
-enum-known-end c = search needs
 
 returns : tie.Need-returns Inv-loop μ-loop
 returns c =
@@ -65,9 +41,6 @@ returns c =
     let first = at-front-at .before .before in
     let e : at-loop .loop .j ≡ at-front-at .front-at .result .input = omega arith in rw (at-no-clause .no-clause .ensures) (table-refused (now (first .args .s)) (at-front-at .front-at .result) (at-front-at .front-at .ensures) (at-loop .loop .past) (at-step-count-at .step-count-at .result .at) (at-step-count-at .step-count-at .result .value) (told-view (at-step-count-at .step-count-at .ensures .0)) (at-loop .loop .clauses) (rw e at (at-loop .loop .inv .1)) (at-end .end .given .0 .0) (at-end .end .given .0 .1 .0) (at-end .end .given .1))
 
-enum-told : tie.Need-enum-told Inv-loop μ-loop
-enum-told c = search needs
-
 returns-2 : tie.Need-returns-2 Inv-loop μ-loop
 returns-2 c = let e : c .before .before .before .before .loop .j ≡ c .before .before .before .before .before .before .before .before .front-at .result .input = omega arith in table-read (now (c .before .before .before .before .before .before .before .before .before .before .args .s)) (c .before .before .before .before .before .before .before .before .front-at .result) (c .before .before .before .before .before .before .before .before .front-at .ensures) (c .before .before .before .before .loop .past) (c .before .before .step-count-at .result .at) (c .before .before .step-count-at .result .value) (told-view (c .before .before .step-count-at .ensures .0)) (c .before .before .before .before .loop .clauses) (rw e at (c .before .before .before .before .loop .inv .1)) (c .enum-told .given .0 .0) (c .enum-told .given .1)
 
@@ -77,18 +50,18 @@ read-clauses-spec =
     (tie.spec
     Inv-loop
     μ-loop
-    front-at-requires
-    cast-count
-    no-clause-requires
+    (λ c κs. search needs)
+    (λ c. search needs)
+    (λ c κs. search needs)
     loop-holds
     clause-at-requires
-    mul-clauses
+    (λ c. search needs)
     array-set-from-clauses
-    add-j
-    loop-less
+    (λ c. search needs)
+    (λ c. search needs)
     loop-again
-    step-count-at-requires
-    enum-known-end
+    (λ c κs. search needs)
+    (λ c. search needs)
     returns
-    enum-told
+    (λ c. search needs)
     returns-2)

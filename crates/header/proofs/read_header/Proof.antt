@@ -6,23 +6,8 @@ use borrow.Author.Needs.{needs}
 use Rattle.header.proofs.read_header.Statement.{statement}
 use Rattle.header.proofs.read_header.Tie as tie
 
-front-at-requires : tie.Need-front-at-requires
-front-at-requires c κs = search needs
-
 clauses-end-requires : tie.Need-clauses-end-requires
 clauses-end-requires c κs = c .before .front-at .ensures .padded
-
-step-count-at-requires : tie.Need-step-count-at-requires
-step-count-at-requires c κs = search needs
-
-enum-known-end : tie.Need-enum-known-end
-enum-known-end c = search needs
-
-enum-known-end-2 : tie.Need-enum-known-end-2
-enum-known-end-2 c = search needs
-
-no-header-requires : tie.Need-no-header-requires
-no-header-requires c κs = search needs
 
 returns : tie.Need-returns
 returns c = header-read (now (c .before .before .before .before .before .before .before .before .args .s)) (c .before .before .before .before .before .before .front-at .result) (c .before .before .before .before .before .before .front-at .ensures) (c .before .before .before .before .clauses-end .result) (c .before .before .before .step-count-at .result .at) (c .before .before .before .step-count-at .result .value) (told-view (c .before .before .before .step-count-at .ensures .0)) (c .before .before .before .before .clauses-end .ensures) (c .before .end .given .0 .0) (c .before .end .given .1)
@@ -34,11 +19,11 @@ pub read-header-spec : {M : Type 1} → statement M
 read-header-spec =
     tie.close
     (tie.spec
-    front-at-requires
+    (λ c κs. search needs)
     clauses-end-requires
-    step-count-at-requires
-    enum-known-end
-    enum-known-end-2
-    no-header-requires
+    (λ c κs. search needs)
+    (λ c. search needs)
+    (λ c. search needs)
+    (λ c κs. search needs)
     returns
     returns-2)

@@ -14,35 +14,11 @@ Inv-loop out₀ at count trail n next₀ j₀ out next j = (j ≤ n) × Turned 1
 abbrev μ-loop : tie.MeasureT-loop
 μ-loop out₀ at count trail n next₀ j₀ out next j = n - j
 
-entries-of-requires : tie.Need-entries-of-requires Inv-loop μ-loop
-entries-of-requires c κs = search needs
-
 loop-holds : tie.Need-loop-holds Inv-loop μ-loop
 loop-holds c = (search needs, turned-none _ _ _ _ _ _)
 
-mul-e : tie.Need-mul-e Inv-loop μ-loop
-mul-e c = search needs
-
-array-copy-out-e : tie.Need-array-copy-out-e Inv-loop μ-loop
-array-copy-out-e c = search needs
-
-add-put-entry-line : tie.Need-add-put-entry-line Inv-loop μ-loop
-add-put-entry-line c = search needs
-
-put-entry-line-requires : tie.Need-put-entry-line-requires Inv-loop μ-loop
-put-entry-line-requires c κs = search needs
-
-add-j : tie.Need-add-j Inv-loop μ-loop
-add-j c = search needs
-
-loop-less : tie.Need-loop-less Inv-loop μ-loop
-loop-less c = search needs
-
 loop-again : tie.Need-loop-again Inv-loop μ-loop
 loop-again c = (search needs, turned-more (c .before .before .before .before .before .before .loop .inv .1) (c .before .before .before .before .before .before .loop .j + 1) pastEnd (search needs) (omega arith) (search needs) (c .before .before .put-entry-line .ensures))
-
-same-length : tie.Need-same-length Inv-loop μ-loop
-same-length c = search needs
 
 returns : tie.Need-returns Inv-loop μ-loop
 returns c = turned-most (c .before .loop .inv .1) (c .before .before .entries-of .ensures) (search needs) (search needs)
@@ -53,14 +29,14 @@ put-trail-spec =
     (tie.spec
     Inv-loop
     μ-loop
-    entries-of-requires
+    (λ c κs. search needs)
     loop-holds
-    mul-e
-    array-copy-out-e
-    add-put-entry-line
-    put-entry-line-requires
-    add-j
-    loop-less
+    (λ c. search needs)
+    (λ c. search needs)
+    (λ c. search needs)
+    (λ c κs. search needs)
+    (λ c. search needs)
+    (λ c. search needs)
     loop-again
-    same-length
+    (λ c. search needs)
     returns)

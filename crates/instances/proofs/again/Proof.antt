@@ -9,18 +9,9 @@ use borrow.Author.Needs.{needs}
 use Rattle.instances.proofs.again.Statement.{statement}
 use Rattle.instances.proofs.again.Tie as tie
 
-conflict-instance-requires : tie.Need-conflict-instance-requires
-conflict-instance-requires c κs = search needs
-
-other-instances-requires : tie.Need-other-instances-requires
-other-instances-requires c κs = search needs
-
-among-requires : tie.Need-among-requires
-among-requires c κs = search needs
-
 returns : tie.Need-returns
 returns c = rw (c .among .ensures, c .before .before .conflict-instance .ensures) (ap (anyOf (sameLiteral (literalInstance (instancedOf (c .before .before .before .args .n)) (c .before .before .before .args .l)))) (listed-says (c .before .other-instances .ensures)))
 
 pub again-spec : {M : Type 1} → statement M
 again-spec =
-    tie.close (tie.spec conflict-instance-requires other-instances-requires among-requires returns)
+    tie.close (tie.spec (λ c κs. search needs) (λ c κs. search needs) (λ c κs. search needs) returns)

@@ -17,20 +17,8 @@ Inv-loop g d n j₀ j = (j ≤ n) × (anyOf (sameLiteral g) (take j (d .at)) ≡
 abbrev μ-loop : tie.MeasureT-loop
 μ-loop g d n j₀ j = n - j
 
-instances-of-requires : tie.Need-instances-of-requires Inv-loop μ-loop
-instances-of-requires c κs = search needs
-
 loop-holds : tie.Need-loop-holds Inv-loop μ-loop
 loop-holds c = (omega arith, refl)
-
-mul-h : tie.Need-mul-h Inv-loop μ-loop
-mul-h c = search needs
-
-element-copy-out-h : tie.Need-element-copy-out-h Inv-loop μ-loop
-element-copy-out-h c = search needs
-
-same-literal-requires : tie.Need-same-literal-requires Inv-loop μ-loop
-same-literal-requires c κs = search needs
 
 returns : tie.Need-returns Inv-loop μ-loop
 returns c =
@@ -40,12 +28,6 @@ returns c =
     (ap (anyOf (sameLiteral (args .g))) (sym (instances-of .ensures .same))
     ∙ anyOf-found (sameLiteral (args .g)) (args .t1 .at) (c .before .before .before .before .loop .j) (instances-of .result) noLiteral (omega arith)
     (omega (arith, instances-of .ensures .long, instances-of .ensures .few)) (sym (c .before .same-literal .ensures) ∙ c .if1 .taken))
-
-add-j : tie.Need-add-j Inv-loop μ-loop
-add-j c = search needs
-
-loop-less : tie.Need-loop-less Inv-loop μ-loop
-loop-less c = search needs
 
 loop-again : tie.Need-loop-again Inv-loop μ-loop
 loop-again c =
@@ -70,13 +52,13 @@ among-spec =
     (tie.spec
     Inv-loop
     μ-loop
-    instances-of-requires
+    (λ c κs. search needs)
     loop-holds
-    mul-h
-    element-copy-out-h
-    same-literal-requires
+    (λ c. search needs)
+    (λ c. search needs)
+    (λ c κs. search needs)
     returns
-    add-j
-    loop-less
+    (λ c. search needs)
+    (λ c. search needs)
     loop-again
     returns-2)

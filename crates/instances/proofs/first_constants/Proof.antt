@@ -16,20 +16,8 @@ Inv-loop count n out₀ k₀ out k = (n ≤ k) × (k ≤ mostVariables) × (out 
 abbrev μ-loop : tie.MeasureT-loop
 μ-loop count n out₀ k₀ out k = k
 
-constants-of-requires : tie.Need-constants-of-requires Inv-loop μ-loop
-constants-of-requires c κs = search needs
-
 loop-holds : tie.Need-loop-holds Inv-loop μ-loop
 loop-holds c = (c .constants-of .ensures .few, omega arith, whole-constants _ (c .constants-of .ensures .long))
-
-sub-k : tie.Need-sub-k Inv-loop μ-loop
-sub-k c = search needs
-
-array-write-out : tie.Need-array-write-out Inv-loop μ-loop
-array-write-out c = search needs
-
-loop-less : tie.Need-loop-less Inv-loop μ-loop
-loop-less c = search needs
 
 loop-again : tie.Need-loop-again Inv-loop μ-loop
 loop-again c =
@@ -53,10 +41,10 @@ first-constants-spec =
     (tie.spec
     Inv-loop
     μ-loop
-    constants-of-requires
+    (λ c κs. search needs)
     loop-holds
-    sub-k
-    array-write-out
-    loop-less
+    (λ c. search needs)
+    (λ c. search needs)
+    (λ c. search needs)
     loop-again
     returns)

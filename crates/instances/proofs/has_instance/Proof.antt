@@ -18,23 +18,11 @@ Inv-loop g c instance m v j₀ j = (j ≤ m) × (anyOf (λ k. sameLiteral g (gro
 abbrev μ-loop : tie.MeasureT-loop
 μ-loop g c instance m v j₀ j = m - j
 
-literals-of-requires : tie.Need-literals-of-requires Inv-loop μ-loop
-literals-of-requires c κs = search needs
-
 loop-holds : tie.Need-loop-holds Inv-loop μ-loop
 loop-holds c = (search needs, refl)
 
-mul-k : tie.Need-mul-k Inv-loop μ-loop
-mul-k c = search needs
-
 element-copy-out-k : tie.Need-element-copy-out-k Inv-loop μ-loop
 element-copy-out-k c = omega (arith, c .before .before .literals-of .ensures .few)
-
-ground-requires : tie.Need-ground-requires Inv-loop μ-loop
-ground-requires c κs = search needs
-
-same-literal-requires : tie.Need-same-literal-requires Inv-loop μ-loop
-same-literal-requires c κs = search needs
 
 returns : tie.Need-returns Inv-loop μ-loop
 returns c =
@@ -45,12 +33,6 @@ returns c =
     (sym (ap (anyOf p) (literals-of .ensures .same))
     ∙ anyOf-found p (args .n .clause .literals) (c .before .before .before .before .before .loop .j) (literals-of .result) noLiteral (search needs)
     (omega (arith, literals-of .ensures .long, literals-of .ensures .few)) (sym (rw (c .before .before .ground .ensures) at (c .before .same-literal .ensures)) ∙ c .if1 .taken))
-
-add-j : tie.Need-add-j Inv-loop μ-loop
-add-j c = search needs
-
-loop-less : tie.Need-loop-less Inv-loop μ-loop
-loop-less c = search needs
 
 loop-again : tie.Need-loop-again Inv-loop μ-loop
 loop-again c =
@@ -78,14 +60,14 @@ has-instance-spec =
     (tie.spec
     Inv-loop
     μ-loop
-    literals-of-requires
+    (λ c κs. search needs)
     loop-holds
-    mul-k
+    (λ c. search needs)
     element-copy-out-k
-    ground-requires
-    same-literal-requires
+    (λ c κs. search needs)
+    (λ c κs. search needs)
     returns
-    add-j
-    loop-less
+    (λ c. search needs)
+    (λ c. search needs)
     loop-again
     returns-2)

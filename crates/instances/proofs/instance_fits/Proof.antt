@@ -25,9 +25,6 @@ returns c = sym (fits-not _ _ _ _ (search needs) (c .if1 .taken))
 loop-holds : tie.Need-loop-holds Inv-loop μ-loop
 loop-holds c = (search needs, refl)
 
-array-read-x : tie.Need-array-read-x Inv-loop μ-loop
-array-read-x c = search needs
-
 returns-2 : tie.Need-returns-2 Inv-loop μ-loop
 returns-2 c =
     let args = c .before .before .before .before .before .args in
@@ -37,12 +34,6 @@ returns-3 : tie.Need-returns-3 Inv-loop μ-loop
 returns-3 c =
     let args = c .before .before .before .before .before .before .args in
     sym (fits-fails (args .constants) _ (args .t3) (args .count) (search needs) (c .before .before .before .loop .j) (search needs) (not-between _ _ (c .if3 .taken)))
-
-add-j : tie.Need-add-j Inv-loop μ-loop
-add-j c = search needs
-
-loop-less : tie.Need-loop-less Inv-loop μ-loop
-loop-less c = search needs
 
 loop-again : tie.Need-loop-again Inv-loop μ-loop
 loop-again c =
@@ -66,10 +57,10 @@ instance-fits-spec =
     μ-loop
     returns
     loop-holds
-    array-read-x
+    (λ c. search needs)
     returns-2
     returns-3
-    add-j
-    loop-less
+    (λ c. search needs)
+    (λ c. search needs)
     loop-again
     returns-4)

@@ -5,9 +5,6 @@ use borrow.Author.Needs.{needs}
 use Rattle.instances.proofs.literal_exists.Statement.{statement}
 use Rattle.instances.proofs.literal_exists.Tie as tie
 
-literals-of-requires : tie.Need-literals-of-requires
-literals-of-requires c κs = search needs
-
 returns : tie.Need-returns
 returns c = simp (lt-leb _ _ (c .if1 .taken))
 
@@ -15,4 +12,4 @@ returns-2 : tie.Need-returns-2
 returns-2 c = simp (le-leb _ _ (c .if1 .left), counted-length (c .before .literals-of .ensures))
 
 pub literal-exists-spec : {M : Type 1} → statement M
-literal-exists-spec = tie.close (tie.spec literals-of-requires returns returns-2)
+literal-exists-spec = tie.close (tie.spec (λ c κs. search needs) returns returns-2)

@@ -22,44 +22,8 @@ Inv-loop l clause instance variables m i at₀ count₀ j₀ at count j =
 abbrev μ-loop : tie.MeasureT-loop
 μ-loop l clause instance variables m i at₀ count₀ j₀ at count j = m - j
 
-literals-of-requires : tie.Need-literals-of-requires Inv-loop μ-loop
-literals-of-requires c κs = search needs
-
-index-of-requires : tie.Need-index-of-requires Inv-loop μ-loop
-index-of-requires c κs = search needs
-
-no-literal-requires : tie.Need-no-literal-requires Inv-loop μ-loop
-no-literal-requires c κs = search needs
-
 loop-holds : tie.Need-loop-holds Inv-loop μ-loop
 loop-holds c = (omega arith, omega arith, refl, ap (replicate mostLiterals) (c .no-literal .ensures) ∙ sym (exactly-none noLiteral mostLiterals))
-
-mul-k : tie.Need-mul-k Inv-loop μ-loop
-mul-k c = search needs
-
-element-copy-out-k : tie.Need-element-copy-out-k Inv-loop μ-loop
-element-copy-out-k c = search needs
-
-add-j : tie.Need-add-j Inv-loop μ-loop
-add-j c = search needs
-
-add-if1 : tie.Need-add-if1 Inv-loop μ-loop
-add-if1 c = search needs
-
-ground-requires : tie.Need-ground-requires Inv-loop μ-loop
-ground-requires c κs = search needs
-
-mul-at : tie.Need-mul-at Inv-loop μ-loop
-mul-at c = search needs
-
-array-set-from-at : tie.Need-array-set-from-at Inv-loop μ-loop
-array-set-from-at c = search needs
-
-add-count : tie.Need-add-count Inv-loop μ-loop
-add-count c = search needs
-
-loop-less : tie.Need-loop-less Inv-loop μ-loop
-loop-less c = search needs
 
 loop-again : tie.Need-loop-again Inv-loop μ-loop
 loop-again c =
@@ -77,9 +41,6 @@ loop-again c =
     more in
     (omega arith, omega arith, t .0, t .1)
 
-loop-less-2 : tie.Need-loop-less-2 Inv-loop μ-loop
-loop-less-2 c = search needs
-
 loop-again-2 : tie.Need-loop-again-2 Inv-loop μ-loop
 loop-again-2 c =
     let args = c .before .before .before .before .before .before .before .before .before .args in
@@ -89,9 +50,6 @@ loop-again-2 c =
     others-skipped (ground (take (args .n .clause .variables) (args .n .instance))) (c .before .before .before .before .before .index-of .result)
     (args .n .clause .literals) (loop .j) noLiteral (omega (arith, literals-of .ensures .few, literals-of .ensures .long)) (omega arith) in
     (omega arith, omega arith, loop .inv .2 ∙ ap length (sym same), loop .inv .3 ∙ ap (exactly mostLiterals noLiteral) (sym same))
-
-cast-t23 : tie.Need-cast-t23 Inv-loop μ-loop
-cast-t23 c = search needs
 
 returns : tie.Need-returns Inv-loop μ-loop
 returns c =
@@ -110,21 +68,21 @@ other-instances-spec =
     (tie.spec
     Inv-loop
     μ-loop
-    literals-of-requires
-    index-of-requires
-    no-literal-requires
+    (λ c κs. search needs)
+    (λ c κs. search needs)
+    (λ c κs. search needs)
     loop-holds
-    mul-k
-    element-copy-out-k
-    add-j
-    add-if1
-    ground-requires
-    mul-at
-    array-set-from-at
-    add-count
-    loop-less
+    (λ c. search needs)
+    (λ c. search needs)
+    (λ c. search needs)
+    (λ c. search needs)
+    (λ c κs. search needs)
+    (λ c. search needs)
+    (λ c. search needs)
+    (λ c. search needs)
+    (λ c. search needs)
     loop-again
-    loop-less-2
+    (λ c. search needs)
     loop-again-2
-    cast-t23
+    (λ c. search needs)
     returns)

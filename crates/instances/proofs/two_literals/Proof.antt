@@ -4,12 +4,6 @@ use borrow.Author.Needs.{needs}
 use Rattle.instances.proofs.two_literals.Statement.{statement}
 use Rattle.instances.proofs.two_literals.Tie as tie
 
-literal-exists-requires : tie.Need-literal-exists-requires
-literal-exists-requires c κs = search needs
-
-literal-exists-requires-2 : tie.Need-literal-exists-requires-2
-literal-exists-requires-2 c κs = search needs
-
 returns : tie.Need-returns
 returns c = simp (sym (c .before .before .before .literal-exists .ensures) ∙ c .before .before .if1 .taken, sym (c .before .literal-exists2 .ensures) ∙ c .if2 .taken)
 
@@ -22,4 +16,4 @@ returns-3 c = simp (sym (c .before .literal-exists .ensures) ∙ c .if1 .left)
 pub two-literals-spec : {M : Type 1} → statement M
 two-literals-spec =
     tie.close
-    (tie.spec literal-exists-requires literal-exists-requires-2 returns returns-2 returns-3)
+    (tie.spec (λ c κs. search needs) (λ c κs. search needs) returns returns-2 returns-3)

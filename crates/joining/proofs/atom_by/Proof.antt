@@ -4,14 +4,8 @@ use borrow.Author.Needs.{needs}
 use Rattle.joining.proofs.atom_by.Statement.{statement}
 use Rattle.joining.proofs.atom_by.Tie as tie
 
-look-requires : tie.Need-look-requires
-look-requires c κs = search needs
-
-look-requires-2 : tie.Need-look-requires-2
-look-requires-2 c κs = search needs
-
 returns : tie.Need-returns
 returns c = cc
 
 pub atom-by-spec : {M : Type 1} → statement M
-atom-by-spec = tie.close (tie.spec look-requires look-requires-2 returns)
+atom-by-spec = tie.close (tie.spec (λ c κs. search needs) (λ c κs. search needs) returns)

@@ -11,35 +11,14 @@ use Rattle.joining.proofs.Closing.{close-no-variables, close-no-atoms, 
 use Rattle.joining.proofs.close_up.Statement.{statement}
 use Rattle.joining.proofs.close_up.Tie as tie
 
-count-atoms-requires : tie.Need-count-atoms-requires
-count-atoms-requires c κs = search needs
-
-count-literals-requires : tie.Need-count-literals-requires
-count-literals-requires c κs = search needs
-
-too-large-requires : tie.Need-too-large-requires
-too-large-requires c κs = search needs
-
 returns : tie.Need-returns
 returns c = let a = c .before .before .before .before .args in c .too-large .ensures ∙ sym (close-no-atoms (a .v) (atomsIn (a .az)) (literalsIn (a .ls)) (a .t) (omega (arith, length-take (a .az .n) (a .az .at))))
-
-too-large-requires-2 : tie.Need-too-large-requires-2
-too-large-requires-2 c κs = search needs
 
 returns-2 : tie.Need-returns-2
 returns-2 c = let a = c .before .before .before .before .before .args in c .too-large2 .ensures ∙ sym (close-no-literals (a .v) (atomsIn (a .az)) (literalsIn (a .ls)) (a .t) (omega (arith, length-take (a .ls .n) (a .ls .at))))
 
-unclosed-requires : tie.Need-unclosed-requires
-unclosed-requires c κs = search needs
-
 kept-requires : tie.Need-kept-requires
 kept-requires c κs = omega (arith, ap (λ (d : Clause). d .variables) (c .unclosed .ensures))
-
-count-names-requires : tie.Need-count-names-requires
-count-names-requires c κs = search needs
-
-too-large-requires-3 : tie.Need-too-large-requires-3
-too-large-requires-3 c κs = search needs
 
 returns-3 : tie.Need-returns-3
 returns-3 c =
@@ -53,18 +32,6 @@ closed-atoms-requires c κs = (search needs, omega arith)
 closed-literals-requires : tie.Need-closed-literals-requires
 closed-literals-requires c κs = (search needs, omega arith)
 
-constants-requires : tie.Need-constants-requires
-constants-requires c κs = search needs
-
-cast-t16 : tie.Need-cast-t16
-cast-t16 c = search needs
-
-cast-t17 : tie.Need-cast-t17
-cast-t17 c = search needs
-
-cast-t18 : tie.Need-cast-t18
-cast-t18 c = search needs
-
 returns-4 : tie.Need-returns-4
 returns-4 c =
     let a = c .before .before .before .before .before .before .before .before .before .before .before .args in
@@ -76,21 +43,21 @@ pub close-up-spec : {M : Type 1} → statement M
 close-up-spec =
     tie.close
     (tie.spec
-    count-atoms-requires
-    count-literals-requires
-    too-large-requires
+    (λ c κs. search needs)
+    (λ c κs. search needs)
+    (λ c κs. search needs)
     returns
-    too-large-requires-2
+    (λ c κs. search needs)
     returns-2
-    unclosed-requires
+    (λ c κs. search needs)
     kept-requires
-    count-names-requires
-    too-large-requires-3
+    (λ c κs. search needs)
+    (λ c κs. search needs)
     returns-3
     closed-atoms-requires
     closed-literals-requires
-    constants-requires
-    cast-t16
-    cast-t17
-    cast-t18
+    (λ c κs. search needs)
+    (λ c. search needs)
+    (λ c. search needs)
+    (λ c. search needs)
     returns-4)

@@ -4,18 +4,9 @@ use borrow.Author.Needs.{needs}
 use Rattle.joining.proofs.closed_literal.Statement.{statement}
 use Rattle.joining.proofs.closed_literal.Tie as tie
 
-number-requires : tie.Need-number-requires
-number-requires c κs = search needs
-
-number-requires-2 : tie.Need-number-requires-2
-number-requires-2 c κs = search needs
-
-number-requires-3 : tie.Need-number-requires-3
-number-requires-3 c κs = search needs
-
 returns : tie.Need-returns
 returns c = cc
 
 pub closed-literal-spec : {M : Type 1} → statement M
 closed-literal-spec =
-    tie.close (tie.spec number-requires number-requires-2 number-requires-3 returns)
+    tie.close (tie.spec (λ c κs. search needs) (λ c κs. search needs) (λ c κs. search needs) returns)

@@ -20,35 +20,8 @@ Inv-loop ks l n out₀ j₀ out j = (j ≤ n) × (out ≡ exactly 8 noLiteral (m
 abbrev μ-loop : tie.MeasureT-loop
 μ-loop ks l n out₀ j₀ out j = n - j
 
-count-literals-requires : tie.Need-count-literals-requires Inv-loop μ-loop
-count-literals-requires c κs = search needs
-
-no-literal-requires : tie.Need-no-literal-requires Inv-loop μ-loop
-no-literal-requires c κs = search needs
-
 loop-holds : tie.Need-loop-holds Inv-loop μ-loop
 loop-holds c = (omega arith, rw (c .no-literal .ensures) (sym (exactly-none noLiteral 8)))
-
-mul-a : tie.Need-mul-a Inv-loop μ-loop
-mul-a c = search needs
-
-element-copy-out-a : tie.Need-element-copy-out-a Inv-loop μ-loop
-element-copy-out-a c = search needs
-
-closed-literal-requires : tie.Need-closed-literal-requires Inv-loop μ-loop
-closed-literal-requires c κs = search needs
-
-mul-out : tie.Need-mul-out Inv-loop μ-loop
-mul-out c = search needs
-
-array-set-from-out : tie.Need-array-set-from-out Inv-loop μ-loop
-array-set-from-out c = search needs
-
-add-j : tie.Need-add-j Inv-loop μ-loop
-add-j c = search needs
-
-loop-less : tie.Need-loop-less Inv-loop μ-loop
-loop-less c = search needs
 
 loop-again : tie.Need-loop-again Inv-loop μ-loop
 loop-again c =
@@ -68,15 +41,15 @@ closed-literals-spec =
     (tie.spec
     Inv-loop
     μ-loop
-    count-literals-requires
-    no-literal-requires
+    (λ c κs. search needs)
+    (λ c κs. search needs)
     loop-holds
-    mul-a
-    element-copy-out-a
-    closed-literal-requires
-    mul-out
-    array-set-from-out
-    add-j
-    loop-less
+    (λ c. search needs)
+    (λ c. search needs)
+    (λ c κs. search needs)
+    (λ c. search needs)
+    (λ c. search needs)
+    (λ c. search needs)
+    (λ c. search needs)
     loop-again
     returns)

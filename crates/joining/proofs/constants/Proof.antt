@@ -19,26 +19,8 @@ Inv-loop t ks n out₀ j₀ out j = (j ≤ n) × (out ≡ exactly 12 0 (map (und
 abbrev μ-loop : tie.MeasureT-loop
 μ-loop t ks n out₀ j₀ out j = n - j
 
-count-names-requires : tie.Need-count-names-requires Inv-loop μ-loop
-count-names-requires c κs = search needs
-
 loop-holds : tie.Need-loop-holds Inv-loop μ-loop
 loop-holds c = (omega arith, sym (exactly-none 0 12))
-
-element-copy-out-a : tie.Need-element-copy-out-a Inv-loop μ-loop
-element-copy-out-a c = search needs
-
-look-requires : tie.Need-look-requires Inv-loop μ-loop
-look-requires c κs = search needs
-
-array-write-out : tie.Need-array-write-out Inv-loop μ-loop
-array-write-out c = search needs
-
-add-j : tie.Need-add-j Inv-loop μ-loop
-add-j c = search needs
-
-loop-less : tie.Need-loop-less Inv-loop μ-loop
-loop-less c = search needs
 
 loop-again : tie.Need-loop-again Inv-loop μ-loop
 loop-again c =
@@ -58,12 +40,12 @@ constants-spec =
     (tie.spec
     Inv-loop
     μ-loop
-    count-names-requires
+    (λ c κs. search needs)
     loop-holds
-    element-copy-out-a
-    look-requires
-    array-write-out
-    add-j
-    loop-less
+    (λ c. search needs)
+    (λ c κs. search needs)
+    (λ c. search needs)
+    (λ c. search needs)
+    (λ c. search needs)
     loop-again
     returns)

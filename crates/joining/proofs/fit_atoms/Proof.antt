@@ -19,32 +19,8 @@ Inv-loop l n out₀ j₀ out j = (j ≤ n) × (out ≡ exactly 24 noAtom (take j
 abbrev μ-loop : tie.MeasureT-loop
 μ-loop l n out₀ j₀ out j = n - j
 
-count-atoms-requires : tie.Need-count-atoms-requires Inv-loop μ-loop
-count-atoms-requires c κs = search needs
-
-no-atom-requires : tie.Need-no-atom-requires Inv-loop μ-loop
-no-atom-requires c κs = search needs
-
 loop-holds : tie.Need-loop-holds Inv-loop μ-loop
 loop-holds c = (omega arith, rw (c .no-atom .ensures) (sym (exactly-none noAtom 24)))
-
-mul-a : tie.Need-mul-a Inv-loop μ-loop
-mul-a c = search needs
-
-element-copy-out-a : tie.Need-element-copy-out-a Inv-loop μ-loop
-element-copy-out-a c = search needs
-
-mul-out : tie.Need-mul-out Inv-loop μ-loop
-mul-out c = search needs
-
-array-set-from-out : tie.Need-array-set-from-out Inv-loop μ-loop
-array-set-from-out c = search needs
-
-add-j : tie.Need-add-j Inv-loop μ-loop
-add-j c = search needs
-
-loop-less : tie.Need-loop-less Inv-loop μ-loop
-loop-less c = search needs
 
 loop-again : tie.Need-loop-again Inv-loop μ-loop
 loop-again c =
@@ -61,14 +37,14 @@ fit-atoms-spec =
     (tie.spec
     Inv-loop
     μ-loop
-    count-atoms-requires
-    no-atom-requires
+    (λ c κs. search needs)
+    (λ c κs. search needs)
     loop-holds
-    mul-a
-    element-copy-out-a
-    mul-out
-    array-set-from-out
-    add-j
-    loop-less
+    (λ c. search needs)
+    (λ c. search needs)
+    (λ c. search needs)
+    (λ c. search needs)
+    (λ c. search needs)
+    (λ c. search needs)
     loop-again
     returns)

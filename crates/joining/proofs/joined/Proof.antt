@@ -12,21 +12,6 @@ use Rattle.joining.proofs.Scratch.{apart-none}
 use Rattle.joining.proofs.joined.Statement.{statement}
 use Rattle.joining.proofs.joined.Tie as tie
 
-look-requires : tie.Need-look-requires
-look-requires c κs = search needs
-
-look-requires-2 : tie.Need-look-requires-2
-look-requires-2 c κs = search needs
-
-high-requires : tie.Need-high-requires
-high-requires c κs = search needs
-
-low-requires : tie.Need-low-requires
-low-requires c κs = search needs
-
-renumbered-requires : tie.Need-renumbered-requires
-renumbered-requires c κs = search needs
-
 returns : tie.Need-returns
 returns c =
     let a = c .before .before .before .before .before .args in
@@ -38,4 +23,4 @@ returns c =
 pub joined-spec : {M : Type 1} → statement M
 joined-spec =
     tie.close
-    (tie.spec look-requires look-requires-2 high-requires low-requires renumbered-requires returns)
+    (tie.spec (λ c κs. search needs) (λ c κs. search needs) (λ c κs. search needs) (λ c κs. search needs) (λ c κs. search needs) returns)

@@ -6,15 +6,6 @@ use Rattle.calculus.specs.Merging.{join, apart}
 use Rattle.joining.proofs.joined_arguments.Statement.{statement}
 use Rattle.joining.proofs.joined_arguments.Tie as tie
 
-joined-requires : tie.Need-joined-requires
-joined-requires c κs = search needs
-
-joined-requires-2 : tie.Need-joined-requires-2
-joined-requires-2 c κs = search needs
-
-joined-requires-3 : tie.Need-joined-requires-3
-joined-requires-3 c κs = search needs
-
 returns : tie.Need-returns
 returns c =
     let a = c .before .before .before .args in
@@ -22,4 +13,4 @@ returns c =
 
 pub joined-arguments-spec : {M : Type 1} → statement M
 joined-arguments-spec =
-    tie.close (tie.spec joined-requires joined-requires-2 joined-requires-3 returns)
+    tie.close (tie.spec (λ c κs. search needs) (λ c κs. search needs) (λ c κs. search needs) returns)

@@ -20,32 +20,8 @@ Inv-loop c v out₀ x₀ out x = (x ≤ v) × (out .n ≤ x) × (out ≡ heldNam
 abbrev μ-loop : tie.MeasureT-loop
 μ-loop c v out₀ x₀ out x = v - x
 
-cast-v : tie.Need-cast-v Inv-loop μ-loop
-cast-v c = search needs
-
-no-names-requires : tie.Need-no-names-requires Inv-loop μ-loop
-no-names-requires c κs = search needs
-
 loop-holds : tie.Need-loop-holds Inv-loop μ-loop
 loop-holds c = (omega arith, omega (arith, ap (λ (l : Names). l .n) (c .no-names .ensures)), c .no-names .ensures)
-
-add-y : tie.Need-add-y Inv-loop μ-loop
-add-y c = search needs
-
-cast-name : tie.Need-cast-name Inv-loop μ-loop
-cast-name c = search needs
-
-occurs-requires : tie.Need-occurs-requires Inv-loop μ-loop
-occurs-requires c κs = search needs
-
-element-write-out : tie.Need-element-write-out Inv-loop μ-loop
-element-write-out c = search needs
-
-add-out : tie.Need-add-out Inv-loop μ-loop
-add-out c = search needs
-
-loop-less : tie.Need-loop-less Inv-loop μ-loop
-loop-less c = search needs
 
 loop-again : tie.Need-loop-again Inv-loop μ-loop
 loop-again c =
@@ -55,9 +31,6 @@ loop-again c =
     let p = occursIn (clauseOf (a .c) .atoms) (clauseOf (a .c) .literals) in
     let e = kept-turn p (s .loop .x) o (pushName o (s .loop .x + 1)) (c .before .occurs .result) (omega arith) (s .loop .inv .2) (c .before .occurs .ensures) (sym (ap (λ (t : Bool). cond t (pushName o (s .loop .x + 1)) o) (c .if1 .taken))) in
     (omega arith, omega arith, e)
-
-loop-less-2 : tie.Need-loop-less-2 Inv-loop μ-loop
-loop-less-2 c = search needs
 
 loop-again-2 : tie.Need-loop-again-2 Inv-loop μ-loop
 loop-again-2 c =
@@ -77,16 +50,16 @@ kept-spec =
     (tie.spec
     Inv-loop
     μ-loop
-    cast-v
-    no-names-requires
+    (λ c. search needs)
+    (λ c κs. search needs)
     loop-holds
-    add-y
-    cast-name
-    occurs-requires
-    element-write-out
-    add-out
-    loop-less
+    (λ c. search needs)
+    (λ c. search needs)
+    (λ c κs. search needs)
+    (λ c. search needs)
+    (λ c. search needs)
+    (λ c. search needs)
     loop-again
-    loop-less-2
+    (λ c. search needs)
     loop-again-2
     returns)

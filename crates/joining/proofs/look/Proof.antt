@@ -13,15 +13,6 @@ use Rattle.joining.proofs.look.Tie as tie
 returns : tie.Need-returns
 returns c = simp (eq-eqb _ _ (c .if1 .taken))
 
-add-k : tie.Need-add-k
-add-k c = search needs
-
-sub-k : tie.Need-sub-k
-sub-k c = search needs
-
-array-read-result : tie.Need-array-read-result
-array-read-result c = search needs
-
 returns-2 : tie.Need-returns-2
 returns-2 c =
     let a = c .before .before .args in
@@ -34,4 +25,4 @@ returns-3 c =
     simp (ne-eqb _ _ (c .before .if1 .left)) (sym (under-past (a .t1) (a .x + a .v) (omega (arith, h))))
 
 pub look-spec : {M : Type 1} → statement M
-look-spec = tie.close (tie.spec returns add-k sub-k array-read-result returns-2 returns-3)
+look-spec = tie.close (tie.spec returns (λ c. search needs) (λ c. search needs) (λ c. search needs) returns-2 returns-3)

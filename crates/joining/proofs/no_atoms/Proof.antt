@@ -5,12 +5,9 @@ use Rattle.lists.specs.Arrays.{exactly}
 use Rattle.joining.proofs.no_atoms.Statement.{statement}
 use Rattle.joining.proofs.no_atoms.Tie as tie
 
-no-atom-requires : tie.Need-no-atom-requires
-no-atom-requires c κs = search needs
-
 returns : tie.Need-returns
 unfolding exactly
 returns c = cc
 
 pub no-atoms-spec : {M : Type 1} → statement M
-no-atoms-spec = tie.close (tie.spec no-atom-requires returns)
+no-atoms-spec = tie.close (tie.spec (λ c κs. search needs) returns)

@@ -5,12 +5,9 @@ use Rattle.lists.specs.Arrays.{exactly}
 use Rattle.joining.proofs.no_literals.Statement.{statement}
 use Rattle.joining.proofs.no_literals.Tie as tie
 
-no-literal-requires : tie.Need-no-literal-requires
-no-literal-requires c κs = search needs
-
 returns : tie.Need-returns
 unfolding exactly
 returns c = cc
 
 pub no-literals-spec : {M : Type 1} → statement M
-no-literals-spec = tie.close (tie.spec no-literal-requires returns)
+no-literals-spec = tie.close (tie.spec (λ c κs. search needs) returns)

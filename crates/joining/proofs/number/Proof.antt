@@ -22,14 +22,8 @@ abbrev μ-loop : tie.MeasureT-loop
 returns : tie.Need-returns Inv-loop μ-loop
 returns c = simp (eq-eqb _ _ (c .if1 .taken))
 
-count-names-requires : tie.Need-count-names-requires Inv-loop μ-loop
-count-names-requires c κs = search needs
-
 loop-holds : tie.Need-loop-holds Inv-loop μ-loop
 loop-holds c = (omega arith, search needs, refl, omega arith)
-
-element-copy-out-if2 : tie.Need-element-copy-out-if2 Inv-loop μ-loop
-element-copy-out-if2 c = search needs
 
 returns-2 : tie.Need-returns-2 Inv-loop μ-loop
 returns-2 c =
@@ -38,15 +32,6 @@ returns-2 c =
     let l = namesIn (a .t1) in
     let h : s .loop .j < length l = omega (arith, length-take (a .t1 .n) (a .t1 .at)) in
     sym (closed-past l (a .x) (c .before .before .before .before .before .if1 .left) ∙ omega (arith, index-here l (a .x) (s .loop .j) h (getD-take (a .t1 .n) (a .t1 .at) (s .loop .j) 0 (omega arith) ∙ c .if2 .taken)))
-
-add-r : tie.Need-add-r Inv-loop μ-loop
-add-r c = search needs
-
-add-j : tie.Need-add-j Inv-loop μ-loop
-add-j c = search needs
-
-loop-less : tie.Need-loop-less Inv-loop μ-loop
-loop-less c = search needs
 
 loop-again : tie.Need-loop-again Inv-loop μ-loop
 loop-again c =
@@ -74,12 +59,12 @@ number-spec =
     Inv-loop
     μ-loop
     returns
-    count-names-requires
+    (λ c κs. search needs)
     loop-holds
-    element-copy-out-if2
+    (λ c. search needs)
     returns-2
-    add-r
-    add-j
-    loop-less
+    (λ c. search needs)
+    (λ c. search needs)
+    (λ c. search needs)
     loop-again
     returns-3)

@@ -8,27 +8,6 @@ use Rattle.joining.specs.Scratch.{atomsIn, literalsIn}
 use Rattle.joining.proofs.unclosed.Statement.{statement}
 use Rattle.joining.proofs.unclosed.Tie as tie
 
-count-atoms-requires : tie.Need-count-atoms-requires
-count-atoms-requires c κs = search needs
-
-count-literals-requires : tie.Need-count-literals-requires
-count-literals-requires c κs = search needs
-
-fit-atoms-requires : tie.Need-fit-atoms-requires
-fit-atoms-requires c κs = search needs
-
-fit-literals-requires : tie.Need-fit-literals-requires
-fit-literals-requires c κs = search needs
-
-cast-t8 : tie.Need-cast-t8
-cast-t8 c = search needs
-
-cast-t9 : tie.Need-cast-t9
-cast-t9 c = search needs
-
-cast-t10 : tie.Need-cast-t10
-cast-t10 c = search needs
-
 returns : tie.Need-returns
 returns c =
     let a = c .before .before .before .before .args in
@@ -40,11 +19,11 @@ pub unclosed-spec : {M : Type 1} → statement M
 unclosed-spec =
     tie.close
     (tie.spec
-    count-atoms-requires
-    count-literals-requires
-    fit-atoms-requires
-    fit-literals-requires
-    cast-t8
-    cast-t9
-    cast-t10
+    (λ c κs. search needs)
+    (λ c κs. search needs)
+    (λ c κs. search needs)
+    (λ c κs. search needs)
+    (λ c. search needs)
+    (λ c. search needs)
+    (λ c. search needs)
     returns)

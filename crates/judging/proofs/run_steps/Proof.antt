@@ -118,44 +118,14 @@ ran c = ⊎-elim
     (λ w. ran-as (stop (c .before .steps .inv .2) (w .0 .taken) (w .1 .ensures) (told (record { before = record { before = record { before = record { before = record { before = record { before = record { before = record { before = record { before = record { before = record { before = c .before; steps-test = w .0 }; step-at = w .1 }; x = w .2 }; last-slot = w .3 }; last = w .4 }; number-looked = w .5 }; slot-of = w .6 }; held = w .7 }; looked-at = w .8 }; instance = w .9 }; match = w .10 })) (w .12 .taken) (w .14 .ensures)) (w .17) (w .18) (w .19) (w .20))
     (c .steps-test .came)
 
-cast-n : tie.Need-cast-n Inv-steps μ-steps
-cast-n c = search needs
-
-new-run-requires : tie.Need-new-run-requires Inv-steps μ-steps
-new-run-requires c κs = search needs
-
-read-clauses-requires : tie.Need-read-clauses-requires Inv-steps μ-steps
-read-clauses-requires c κs = search needs
-
 steps-holds : tie.Need-steps-holds Inv-steps μ-steps
 steps-holds c = (refl, refl, start (now (c .before .before .before .before .before .args .file)) (now (c .before .before .before .before .before .args .out)) (c .before .before .before .before .before .args .head) (c .before .before .before .before .before .args .first) (c .before .before .before .before .before .pre .0) (c .before .before .before .before .before .pre .1) (c .before .new-run .ensures) (c .read-clauses .ensures))
-
-step-at-requires : tie.Need-step-at-requires Inv-steps μ-steps
-step-at-requires c κs = search needs
-
-last-slot-requires : tie.Need-last-slot-requires Inv-steps μ-steps
-last-slot-requires c κs = search needs
 
 mul-last : tie.Need-mul-last Inv-steps μ-steps
 mul-last c = omega (arith, c .last-slot .ensures, kept-small (kept (c .before .before .before .before .steps .inv .2)) .few-entries)
 
 element-copy-out-last : tie.Need-element-copy-out-last Inv-steps μ-steps
 element-copy-out-last c = omega (arith, c .last-slot .ensures, kept-small (kept (c .before .before .before .before .steps .inv .2)) .few-entries)
-
-number-looked-requires : tie.Need-number-looked-requires Inv-steps μ-steps
-number-looked-requires c κs = search needs
-
-slot-of-requires : tie.Need-slot-of-requires Inv-steps μ-steps
-slot-of-requires c κs = search needs
-
-mul-held : tie.Need-mul-held Inv-steps μ-steps
-mul-held c = search needs
-
-array-copy-out-held : tie.Need-array-copy-out-held Inv-steps μ-steps
-array-copy-out-held c = search needs
-
-looked-at-requires : tie.Need-looked-at-requires Inv-steps μ-steps
-looked-at-requires c κs = search needs
 
 propagate-requires : tie.Need-propagate-requires Inv-steps μ-steps
 propagate-requires c κs = handed-as (propagate-step (step-of (c .before)) (c .match .keys1)) (ready (c .before))
@@ -190,15 +160,6 @@ add-put-refused c = omega (arith, line-room (c .before .before .before .before .
 put-refused-requires : tie.Need-put-refused-requires Inv-steps μ-steps
 put-refused-requires c κs = line-room (c .before .before .before .before .before .before .before .before .before .before .before .before .before)
 
-cast-learned : tie.Need-cast-learned Inv-steps μ-steps
-cast-learned c = search needs
-
-sub-table : tie.Need-sub-table Inv-steps μ-steps
-sub-table c = search needs
-
-mul-table : tie.Need-mul-table Inv-steps μ-steps
-mul-table c = search needs
-
 array-set-from-table : tie.Need-array-set-from-table Inv-steps μ-steps
 array-set-from-table c = omega (arith, c .before .before .if2 .taken, learned-fits (c .before .before .before .before .before .before))
 
@@ -207,9 +168,6 @@ add-put-accepted c = omega (arith, line-room (c .before .before .before .before 
 
 put-accepted-requires : tie.Need-put-accepted-requires Inv-steps μ-steps
 put-accepted-requires c κs = line-room (c .before .before .before .before .before .before .before .before .before .before .before .before .before .before .before .before)
-
-place-of-requires : tie.Need-place-of-requires Inv-steps μ-steps
-place-of-requires c κs = search needs
 
 add-j : tie.Need-add-j Inv-steps μ-steps
 add-j c = record { fits = omega (arith, line-room (c .before .before .before .before .before .before .before .before .before .before .before .before .before .before .before .before .before .before .before .before) .0) }
@@ -240,19 +198,19 @@ run-steps-spec =
     (tie.spec
     Inv-steps
     μ-steps
-    cast-n
-    new-run-requires
-    read-clauses-requires
+    (λ c. search needs)
+    (λ c κs. search needs)
+    (λ c κs. search needs)
     steps-holds
-    step-at-requires
-    last-slot-requires
+    (λ c κs. search needs)
+    (λ c κs. search needs)
     mul-last
     element-copy-out-last
-    number-looked-requires
-    slot-of-requires
-    mul-held
-    array-copy-out-held
-    looked-at-requires
+    (λ c κs. search needs)
+    (λ c κs. search needs)
+    (λ c. search needs)
+    (λ c. search needs)
+    (λ c κs. search needs)
     propagate-requires
     decide-requires
     conflict-requires
@@ -264,13 +222,13 @@ run-steps-spec =
     unknown-requires
     add-put-refused
     put-refused-requires
-    cast-learned
-    sub-table
-    mul-table
+    (λ c. search needs)
+    (λ c. search needs)
+    (λ c. search needs)
     array-set-from-table
     add-put-accepted
     put-accepted-requires
-    place-of-requires
+    (λ c κs. search needs)
     add-j
     steps-less
     steps-again

@@ -7,9 +7,6 @@ use borrow.Author.Needs.{needs}
 use Rattle.listing.proofs.put_accepted.Statement.{statement}
 use Rattle.listing.proofs.put_accepted.Tie as tie
 
-put-numbered-requires : tie.Need-put-numbered-requires
-put-numbered-requires c κs = search needs
-
 put-byte-requires : tie.Need-put-byte-requires
 put-byte-requires c κs = omega (arith, length-numbered (c .before .before .before .before .before .before .args .n) (stepOf (c .before .before .before .before .before .before .args .x)) (c .before .before .before .before .before .before .pre .0), digits-byte (c .before .before .before .before .before .before .args .trail) (omega arith), digits-byte (c .before .before .before .before .before .before .args .level) (omega arith))
 
@@ -25,9 +22,6 @@ put-decimal-requires-2 c κs = omega (arith, length-numbered (c .before .before 
 put-byte-requires-3 : tie.Need-put-byte-requires-3
 put-byte-requires-3 c κs = omega (arith, length-numbered (c .before .before .before .before .before .before .before .before .before .before .before .before .before .before .before .before .before .before .before .before .before .before .args .n) (stepOf (c .before .before .before .before .before .before .before .before .before .before .before .before .before .before .before .before .before .before .before .before .before .before .args .x)) (c .before .before .before .before .before .before .before .before .before .before .before .before .before .before .before .before .before .before .before .before .before .before .pre .0), digits-byte (c .before .before .before .before .before .before .before .before .before .before .before .before .before .before .before .before .before .before .before .before .before .before .args .trail) (omega arith), digits-byte (c .before .before .before .before .before .before .before .before .before .before .before .before .before .before .before .before .before .before .before .before .before .before .args .level) (omega arith))
 
-same-length : tie.Need-same-length
-same-length c = search needs
-
 returns : tie.Need-returns
 unfolding acceptedLine
 returns c = and-then (and-then (and-then (and-then (and-then (c .before .before .before .before .before .before .before .before .before .before .before .before .before .before .before .before .before .before .before .before .before .before .put-numbered .ensures) (c .before .before .before .before .before .before .before .before .before .before .before .before .before .before .before .before .before .before .put-byte .ensures)) (c .before .before .before .before .before .before .before .before .before .before .before .before .before .before .put-decimal .ensures)) (c .before .before .before .before .before .before .before .before .before .before .put-byte2 .ensures)) (c .before .before .before .before .before .before .put-decimal2 .ensures)) (c .before .before .put-byte3 .ensures)
@@ -36,11 +30,11 @@ pub put-accepted-spec : {M : Type 1} → statement M
 put-accepted-spec =
     tie.close
     (tie.spec
-    put-numbered-requires
+    (λ c κs. search needs)
     put-byte-requires
     put-decimal-requires
     put-byte-requires-2
     put-decimal-requires-2
     put-byte-requires-3
-    same-length
+    (λ c. search needs)
     returns)

@@ -6,12 +6,6 @@ use borrow.Author.Needs.{needs}
 use Rattle.listing.proofs.put_bad.Statement.{statement}
 use Rattle.listing.proofs.put_bad.Tie as tie
 
-slice-aggregate-put-word : tie.Need-slice-aggregate-put-word
-slice-aggregate-put-word c = search needs
-
-put-word-requires : tie.Need-put-word-requires
-put-word-requires c κs = search needs
-
 put-decimal-requires : tie.Need-put-decimal-requires
 put-decimal-requires c κs = omega (arith, digits-byte (c .before .before .before .before .before .before .before .args .number) (omega arith), digits-machine (c .before .before .before .before .before .before .before .args .place) (omega arith))
 
@@ -24,9 +18,6 @@ put-decimal-requires-2 c κs = omega (arith, digits-byte (c .before .before .bef
 put-byte-requires-2 : tie.Need-put-byte-requires-2
 put-byte-requires-2 c κs = omega (arith, digits-byte (c .before .before .before .before .before .before .before .before .before .before .before .before .before .before .before .before .before .before .before .args .number) (omega arith), digits-machine (c .before .before .before .before .before .before .before .before .before .before .before .before .before .before .before .before .before .before .before .args .place) (omega arith))
 
-same-length : tie.Need-same-length
-same-length c = search needs
-
 returns : tie.Need-returns
 unfolding badLine
 returns c = and-then (and-then (and-then (and-then (c .before .before .before .before .before .before .before .before .before .before .before .before .before .before .before .before .before .before .put-word .ensures) (c .before .before .before .before .before .before .before .before .before .before .before .before .before .before .put-decimal .ensures)) (c .before .before .before .before .before .before .before .before .before .before .put-byte .ensures)) (c .before .before .before .before .before .before .put-decimal2 .ensures)) (c .before .before .put-byte2 .ensures)
@@ -35,11 +26,11 @@ pub put-bad-spec : {M : Type 1} → statement M
 put-bad-spec =
     tie.close
     (tie.spec
-    slice-aggregate-put-word
-    put-word-requires
+    (λ c. search needs)
+    (λ c κs. search needs)
     put-decimal-requires
     put-byte-requires
     put-decimal-requires-2
     put-byte-requires-2
-    same-length
+    (λ c. search needs)
     returns)

@@ -14,13 +14,10 @@ put-byte-requires c κs = omega (arith, digits-step (c .before .before .before .
 put-name-requires : tie.Need-put-name-requires
 put-name-requires c κs = omega (arith, digits-step (c .before .before .before .before .before .before .before .before .before .before .args .n) (c .before .before .before .before .before .before .before .before .before .before .pre .0))
 
-same-length : tie.Need-same-length
-same-length c = search needs
-
 returns : tie.Need-returns
 returns c = and-then (and-then (c .before .before .before .before .before .before .before .before .before .before .put-decimal .ensures) (c .before .before .before .before .before .before .put-byte .ensures)) (c .before .before .put-name .ensures)
 
 pub put-numbered-spec : {M : Type 1} → statement M
 put-numbered-spec =
     tie.close
-    (tie.spec put-decimal-requires put-byte-requires put-name-requires same-length returns)
+    (tie.spec put-decimal-requires put-byte-requires put-name-requires (λ c. search needs) returns)

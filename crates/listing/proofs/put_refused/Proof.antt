@@ -7,12 +7,6 @@ use borrow.Author.Needs.{needs}
 use Rattle.listing.proofs.put_refused.Statement.{statement}
 use Rattle.listing.proofs.put_refused.Tie as tie
 
-put-numbered-requires : tie.Need-put-numbered-requires
-put-numbered-requires c κs = search needs
-
-slice-aggregate-put-word : tie.Need-slice-aggregate-put-word
-slice-aggregate-put-word c = search needs
-
 put-word-requires : tie.Need-put-word-requires
 put-word-requires c κs = omega (arith, length-numbered (c .before .before .before .before .before .before .before .args .n) (stepOf (c .before .before .before .before .before .before .before .args .x)) (c .before .before .before .before .before .before .before .pre .0))
 
@@ -22,9 +16,6 @@ put-decimal-requires c κs = omega (arith, length-numbered (c .before .before .b
 put-byte-requires : tie.Need-put-byte-requires
 put-byte-requires c κs = omega (arith, length-numbered (c .before .before .before .before .before .before .before .before .before .before .before .before .before .before .before .args .n) (stepOf (c .before .before .before .before .before .before .before .before .before .before .before .before .before .before .before .args .x)) (c .before .before .before .before .before .before .before .before .before .before .before .before .before .before .before .pre .0), digits-byte (c .before .before .before .before .before .before .before .before .before .before .before .before .before .before .before .args .refusal) (omega arith))
 
-same-length : tie.Need-same-length
-same-length c = search needs
-
 returns : tie.Need-returns
 unfolding refusedLine
 returns c = and-then (and-then (and-then (c .before .before .before .before .before .before .before .before .before .before .before .before .before .before .before .put-numbered .ensures) (c .before .before .before .before .before .before .before .before .before .before .put-word .ensures)) (c .before .before .before .before .before .before .put-decimal .ensures)) (c .before .before .put-byte .ensures)
@@ -33,10 +24,10 @@ pub put-refused-spec : {M : Type 1} → statement M
 put-refused-spec =
     tie.close
     (tie.spec
-    put-numbered-requires
-    slice-aggregate-put-word
+    (λ c κs. search needs)
+    (λ c. search needs)
     put-word-requires
     put-decimal-requires
     put-byte-requires
-    same-length
+    (λ c. search needs)
     returns)

@@ -24,35 +24,8 @@ Inv-loop i v t c n out₀ j₀ out j = (j ≤ n) × (out .n ≤ 8 + j) × (out �
 abbrev μ-loop : tie.MeasureT-loop
 μ-loop i v t c n out₀ j₀ out j = n - j
 
-literals-of-requires : tie.Need-literals-of-requires Inv-loop μ-loop
-literals-of-requires c κs = search needs
-
 loop-holds : tie.Need-loop-holds Inv-loop μ-loop
 loop-holds c = (omega arith, omega arith, c .before .pre .0 ∙ ap heldLiterals (sym (append-nil (literalsIn (c .before .args .l)))))
-
-mul-a : tie.Need-mul-a Inv-loop μ-loop
-mul-a c = search needs
-
-element-copy-out-a : tie.Need-element-copy-out-a Inv-loop μ-loop
-element-copy-out-a c = search needs
-
-literal-by-requires : tie.Need-literal-by-requires Inv-loop μ-loop
-literal-by-requires c κs = search needs
-
-mul-b : tie.Need-mul-b Inv-loop μ-loop
-mul-b c = search needs
-
-element-set-from-b : tie.Need-element-set-from-b Inv-loop μ-loop
-element-set-from-b c = search needs
-
-add-out : tie.Need-add-out Inv-loop μ-loop
-add-out c = search needs
-
-add-j : tie.Need-add-j Inv-loop μ-loop
-add-j c = search needs
-
-loop-less : tie.Need-loop-less Inv-loop μ-loop
-loop-less c = search needs
 
 loop-again : tie.Need-loop-again Inv-loop μ-loop
 loop-again c =
@@ -75,15 +48,15 @@ append-literals-spec =
     (tie.spec
     Inv-loop
     μ-loop
-    literals-of-requires
+    (λ c κs. search needs)
     loop-holds
-    mul-a
-    element-copy-out-a
-    literal-by-requires
-    mul-b
-    element-set-from-b
-    add-out
-    add-j
-    loop-less
+    (λ c. search needs)
+    (λ c. search needs)
+    (λ c κs. search needs)
+    (λ c. search needs)
+    (λ c. search needs)
+    (λ c. search needs)
+    (λ c. search needs)
+    (λ c. search needs)
     loop-again
     returns)

@@ -22,21 +22,6 @@ abbrev μ-loop : tie.MeasureT-loop
 loop-holds : tie.Need-loop-holds Inv-loop μ-loop
 loop-holds c = (omega arith, search needs, omega arith, c .pre .0 ∙ ap heldNames (sym (append-nil (namesIn (c .args .l)))))
 
-array-read-b : tie.Need-array-read-b Inv-loop μ-loop
-array-read-b c = search needs
-
-element-write-out : tie.Need-element-write-out Inv-loop μ-loop
-element-write-out c = search needs
-
-add-out : tie.Need-add-out Inv-loop μ-loop
-add-out c = search needs
-
-add-j : tie.Need-add-j Inv-loop μ-loop
-add-j c = search needs
-
-loop-less : tie.Need-loop-less Inv-loop μ-loop
-loop-less c = search needs
-
 loop-again : tie.Need-loop-again Inv-loop μ-loop
 loop-again c =
     let a = c .before .before .args in
@@ -54,10 +39,10 @@ append-names-spec =
     Inv-loop
     μ-loop
     loop-holds
-    array-read-b
-    element-write-out
-    add-out
-    add-j
-    loop-less
+    (λ c. search needs)
+    (λ c. search needs)
+    (λ c. search needs)
+    (λ c. search needs)
+    (λ c. search needs)
     loop-again
     returns)

@@ -13,9 +13,6 @@ use Rattle.calculus.proofs.Merged.{distinct-short}
 use Rattle.merging.proofs.both_atoms.Statement.{statement}
 use Rattle.merging.proofs.both_atoms.Tie as tie
 
-first-atoms-requires : tie.Need-first-atoms-requires
-first-atoms-requires c κs = search needs
-
 append-atoms-requires : tie.Need-append-atoms-requires
 append-atoms-requires c κs =
     let a = c .before .args in
@@ -31,4 +28,4 @@ returns c =
     both-atoms-held (a .t) (a .v) (clauseOf (a .c) .atoms) (clauseOf (a .d) .atoms) (omega (arith, length-take (a .c .atomcount) (a .c .atoms))) (c .before .first-atoms .ensures) (c .append-atoms .ensures)
 
 pub both-atoms-spec : {M : Type 1} → statement M
-both-atoms-spec = tie.close (tie.spec first-atoms-requires append-atoms-requires returns)
+both-atoms-spec = tie.close (tie.spec (λ c κs. search needs) append-atoms-requires returns)

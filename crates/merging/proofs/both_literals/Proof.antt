@@ -13,9 +13,6 @@ use Rattle.merging.proofs.Whole.{literals-few, both-literals-held}
 use Rattle.merging.proofs.both_literals.Statement.{statement}
 use Rattle.merging.proofs.both_literals.Tie as tie
 
-first-literals-requires : tie.Need-first-literals-requires
-first-literals-requires c κs = search needs
-
 append-literals-requires : tie.Need-append-literals-requires
 append-literals-requires c κs =
     let a = c .before .args in
@@ -33,4 +30,4 @@ returns c =
     both-literals-held (a .t) (a .v) (without (a .j) ls) (without (a .i) (clauseOf (a .d) .literals)) (omega (arith, without-short (a .j) ls, length-take (a .c .literalcount) (a .c .literals))) (c .before .first-literals .ensures) (c .append-literals .ensures)
 
 pub both-literals-spec : {M : Type 1} → statement M
-both-literals-spec = tie.close (tie.spec first-literals-requires append-literals-requires returns)
+both-literals-spec = tie.close (tie.spec (λ c κs. search needs) append-literals-requires returns)

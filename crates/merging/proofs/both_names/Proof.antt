@@ -13,9 +13,6 @@ use Rattle.merging.proofs.Appending.{names-held}
 use Rattle.merging.proofs.both_names.Statement.{statement}
 use Rattle.merging.proofs.both_names.Tie as tie
 
-first-names-requires : tie.Need-first-names-requires
-first-names-requires c κs = search needs
-
 append-names-requires : tie.Need-append-names-requires
 append-names-requires c κs =
     let a = c .before .args in
@@ -28,4 +25,4 @@ returns c =
     c .append-names .ensures ∙ ap (λ (l : List ℕ). heldNames (l ++ take (a .u) (a .b))) (names-in (take (a .v) (a .a)) (omega (arith, length-take (a .v) (a .a))) (c .before .first-names .ensures))
 
 pub both-names-spec : {M : Type 1} → statement M
-both-names-spec = tie.close (tie.spec first-names-requires append-names-requires returns)
+both-names-spec = tie.close (tie.spec (λ c κs. search needs) append-names-requires returns)

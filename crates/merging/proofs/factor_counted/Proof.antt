@@ -16,30 +16,6 @@ use Rattle.merging.proofs.Whole.{atoms-few, literals-few, few-atoms, fe
 use Rattle.merging.proofs.factor_counted.Statement.{statement}
 use Rattle.merging.proofs.factor_counted.Tie as tie
 
-cast-w : tie.Need-cast-w
-cast-w c = search needs
-
-literal-at-requires : tie.Need-literal-at-requires
-literal-at-requires c κs = search needs
-
-literal-at-requires-2 : tie.Need-literal-at-requires-2
-literal-at-requires-2 c κs = search needs
-
-start-requires : tie.Need-start-requires
-start-requires c κs = search needs
-
-joined-arguments-requires : tie.Need-joined-arguments-requires
-joined-arguments-requires c κs = search needs
-
-first-atoms-requires : tie.Need-first-atoms-requires
-first-atoms-requires c κs = search needs
-
-first-literals-requires : tie.Need-first-literals-requires
-first-literals-requires c κs = search needs
-
-first-names-requires : tie.Need-first-names-requires
-first-names-requires c κs = search needs
-
 close-up-requires : tie.Need-close-up-requires
 close-up-requires c κs =
     let a = c .before .before .before .before .before .before .before .before .before .before .args in
@@ -65,13 +41,13 @@ pub factor-counted-spec : {M : Type 1} → statement M
 factor-counted-spec =
     tie.close
     (tie.spec
-    cast-w
-    literal-at-requires
-    literal-at-requires-2
-    start-requires
-    joined-arguments-requires
-    first-atoms-requires
-    first-literals-requires
-    first-names-requires
+    (λ c. search needs)
+    (λ c κs. search needs)
+    (λ c κs. search needs)
+    (λ c κs. search needs)
+    (λ c κs. search needs)
+    (λ c κs. search needs)
+    (λ c κs. search needs)
+    (λ c κs. search needs)
     close-up-requires
     returns)

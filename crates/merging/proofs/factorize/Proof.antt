@@ -13,12 +13,6 @@ use Rattle.merging.proofs.Whole.{factored-low-high}
 use Rattle.merging.proofs.factorize.Statement.{statement}
 use Rattle.merging.proofs.factorize.Tie as tie
 
-counted-requires : tie.Need-counted-requires
-counted-requires c κs = search needs
-
-too-large-requires : tie.Need-too-large-requires
-too-large-requires c κs = search needs
-
 returns : tie.Need-returns
 unfolding factorized
 returns c = let e : counted (c .before .before .before .before .args .n .clause) ≡ false = sym (c .before .before .counted .ensures) ∙ not-true (c .before .before .counted .result) (c .before .if1 .taken) in c .too-large .ensures ∙ sym (rw e)
@@ -46,8 +40,8 @@ pub factorize-spec : {M : Type 1} → statement M
 factorize-spec =
     tie.close
     (tie.spec
-    counted-requires
-    too-large-requires
+    (λ c κs. search needs)
+    (λ c κs. search needs)
     returns
     factor-counted-requires
     returns-2

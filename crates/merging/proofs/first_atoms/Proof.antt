@@ -17,9 +17,6 @@ use Rattle.merging.proofs.Whole.{addEach-distinct}
 use Rattle.merging.proofs.first_atoms.Statement.{statement}
 use Rattle.merging.proofs.first_atoms.Tie as tie
 
-no-atoms-requires : tie.Need-no-atoms-requires
-no-atoms-requires c κs = search needs
-
 append-atoms-requires : tie.Need-append-atoms-requires
 append-atoms-requires c κs = (atoms-held [] (omega arith) (c .no-atoms .ensures), omega (arith, ap (λ (l : Atoms). l .n) (c .no-atoms .ensures)))
 
@@ -31,4 +28,4 @@ returns c =
     c .append-atoms .ensures ∙ ap heldAtoms (ap₂ (λ (l : List Atom) (f : ℕ → ℕ). addEach l (map (renameAtom (λ x. under (a .t) (f x))) xs)) none apart-none ∙ addEach-distinct [] (map (renameAtom (under (a .t))) xs))
 
 pub first-atoms-spec : {M : Type 1} → statement M
-first-atoms-spec = tie.close (tie.spec no-atoms-requires append-atoms-requires returns)
+first-atoms-spec = tie.close (tie.spec (λ c κs. search needs) append-atoms-requires returns)

@@ -16,9 +16,6 @@ use Rattle.merging.proofs.Appending.{literals-held}
 use Rattle.merging.proofs.first_literals.Statement.{statement}
 use Rattle.merging.proofs.first_literals.Tie as tie
 
-no-literals-requires : tie.Need-no-literals-requires
-no-literals-requires c κs = search needs
-
 append-literals-requires : tie.Need-append-literals-requires
 append-literals-requires c κs = (literals-held [] (omega arith) (c .no-literals .ensures), omega (arith, ap (λ (l : Literals). l .n) (c .no-literals .ensures)))
 
@@ -29,4 +26,4 @@ returns c =
     c .append-literals .ensures ∙ ap heldLiterals (ap₂ (λ (l : List Literal) (f : ℕ → ℕ). l ++ map (renameLiteral (λ x. under (a .t) (f x))) (without (a .i) (clauseOf (a .c) .literals))) none apart-none)
 
 pub first-literals-spec : {M : Type 1} → statement M
-first-literals-spec = tie.close (tie.spec no-literals-requires append-literals-requires returns)
+first-literals-spec = tie.close (tie.spec (λ c κs. search needs) append-literals-requires returns)

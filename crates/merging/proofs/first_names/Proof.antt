@@ -13,9 +13,6 @@ use Rattle.merging.proofs.Appending.{names-held}
 use Rattle.merging.proofs.first_names.Statement.{statement}
 use Rattle.merging.proofs.first_names.Tie as tie
 
-no-names-requires : tie.Need-no-names-requires
-no-names-requires c κs = search needs
-
 append-names-requires : tie.Need-append-names-requires
 append-names-requires c κs = (names-held [] (omega arith) (c .no-names .ensures), omega (arith, ap (λ (l : Names). l .n) (c .no-names .ensures)), search needs)
 
@@ -25,4 +22,4 @@ returns c =
     c .append-names .ensures ∙ ap (λ (l : List ℕ). heldNames (l ++ take (a .u) (a .a))) (names-in [] (omega arith) (c .before .no-names .ensures))
 
 pub first-names-spec : {M : Type 1} → statement M
-first-names-spec = tie.close (tie.spec no-names-requires append-names-requires returns)
+first-names-spec = tie.close (tie.spec (λ c κs. search needs) append-names-requires returns)

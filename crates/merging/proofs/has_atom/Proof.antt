@@ -19,29 +19,11 @@ Inv-loop b l n j₀ j = (j ≤ n) × (anyOf (λ a. sameAtom a b) (take j (l .at)
 abbrev μ-loop : tie.MeasureT-loop
 μ-loop b l n j₀ j = n - j
 
-count-atoms-requires : tie.Need-count-atoms-requires Inv-loop μ-loop
-count-atoms-requires c κs = search needs
-
 loop-holds : tie.Need-loop-holds Inv-loop μ-loop
 loop-holds c = (omega arith, refl)
 
-mul-a : tie.Need-mul-a Inv-loop μ-loop
-mul-a c = search needs
-
-element-copy-out-a : tie.Need-element-copy-out-a Inv-loop μ-loop
-element-copy-out-a c = search needs
-
-same-atom-requires : tie.Need-same-atom-requires Inv-loop μ-loop
-same-atom-requires c κs = search needs
-
 returns : tie.Need-returns Inv-loop μ-loop
 returns c = let a = c .before .before .before .before .before .before .args in sym (anyOf-found (λ x. sameAtom x (a .b)) (a .t1 .at) (c .before .before .before .before .loop .j) (a .t1 .n) noAtom (omega arith) (omega arith) (sym (c .before .same-atom .ensures) ∙ c .if1 .taken))
-
-add-j : tie.Need-add-j Inv-loop μ-loop
-add-j c = search needs
-
-loop-less : tie.Need-loop-less Inv-loop μ-loop
-loop-less c = search needs
 
 loop-again : tie.Need-loop-again Inv-loop μ-loop
 loop-again c = let a = c .before .before .before .before .before .before .args in (omega arith, anyOf-not (λ x. sameAtom x (a .b)) (a .t1 .at) (c .before .before .before .before .loop .j) noAtom (omega arith) (c .before .before .before .before .loop .inv .1) (sym (c .before .same-atom .ensures) ∙ c .if1 .left))
@@ -55,13 +37,13 @@ has-atom-spec =
     (tie.spec
     Inv-loop
     μ-loop
-    count-atoms-requires
+    (λ c κs. search needs)
     loop-holds
-    mul-a
-    element-copy-out-a
-    same-atom-requires
+    (λ c. search needs)
+    (λ c. search needs)
+    (λ c κs. search needs)
     returns
-    add-j
-    loop-less
+    (λ c. search needs)
+    (λ c. search needs)
     loop-again
     returns-2)

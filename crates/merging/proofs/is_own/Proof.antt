@@ -7,14 +7,8 @@ use Rattle.calculus.specs.Clauses.{sameLiteral}
 use Rattle.merging.proofs.is_own.Statement.{statement}
 use Rattle.merging.proofs.is_own.Tie as tie
 
-ground-requires : tie.Need-ground-requires
-ground-requires c κs = search needs
-
-same-literal-requires : tie.Need-same-literal-requires
-same-literal-requires c κs = search needs
-
 returns : tie.Need-returns
 returns c = c .same-literal .ensures ∙ ap (λ (h : Literal). sameLiteral h (c .before .before .args .g)) (c .before .ground .ensures)
 
 pub is-own-spec : {M : Type 1} → statement M
-is-own-spec = tie.close (tie.spec ground-requires same-literal-requires returns)
+is-own-spec = tie.close (tie.spec (λ c κs. search needs) (λ c κs. search needs) returns)

@@ -21,29 +21,8 @@ Inv-loop tau l g c n v out₀ j₀ out j = (j ≤ n) × (out ≡ joinedOwn (take
 abbrev μ-loop : tie.MeasureT-loop
 μ-loop tau l g c n v out₀ j₀ out j = n - j
 
-literals-of-requires : tie.Need-literals-of-requires Inv-loop μ-loop
-literals-of-requires c κs = search needs
-
 loop-holds : tie.Need-loop-holds Inv-loop μ-loop
 loop-holds c = (omega arith, refl)
-
-mul-m : tie.Need-mul-m Inv-loop μ-loop
-mul-m c = search needs
-
-element-copy-out-m : tie.Need-element-copy-out-m Inv-loop μ-loop
-element-copy-out-m c = search needs
-
-is-own-requires : tie.Need-is-own-requires Inv-loop μ-loop
-is-own-requires c κs = search needs
-
-joined-arguments-requires : tie.Need-joined-arguments-requires Inv-loop μ-loop
-joined-arguments-requires c κs = search needs
-
-add-j : tie.Need-add-j Inv-loop μ-loop
-add-j c = search needs
-
-loop-less : tie.Need-loop-less Inv-loop μ-loop
-loop-less c = search needs
 
 loop-again : tie.Need-loop-again Inv-loop μ-loop
 loop-again c =
@@ -69,13 +48,13 @@ joined-own-spec =
     (tie.spec
     Inv-loop
     μ-loop
-    literals-of-requires
+    (λ c κs. search needs)
     loop-holds
-    mul-m
-    element-copy-out-m
-    is-own-requires
-    joined-arguments-requires
-    add-j
-    loop-less
+    (λ c. search needs)
+    (λ c. search needs)
+    (λ c κs. search needs)
+    (λ c κs. search needs)
+    (λ c. search needs)
+    (λ c. search needs)
     loop-again
     returns)

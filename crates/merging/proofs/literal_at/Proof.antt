@@ -8,20 +8,8 @@ use Rattle.clauses.proofs.Counts.{counted-at, counted-past}
 use Rattle.merging.proofs.literal_at.Statement.{statement}
 use Rattle.merging.proofs.literal_at.Tie as tie
 
-literals-of-requires : tie.Need-literals-of-requires
-literals-of-requires c κs = search needs
-
-mul-l : tie.Need-mul-l
-mul-l c = search needs
-
-element-copy-out-l : tie.Need-element-copy-out-l
-element-copy-out-l c = search needs
-
 returns : tie.Need-returns
 returns c = sym (counted-at (c .before .before .literals-of .ensures) (c .before .before .before .args .j) noLiteral (omega arith))
-
-no-literal-requires : tie.Need-no-literal-requires
-no-literal-requires c κs = search needs
 
 returns-2 : tie.Need-returns-2
 returns-2 c = c .no-literal .ensures ∙ sym (counted-past (c .before .before .literals-of .ensures) (c .before .before .before .args .j) noLiteral (omega arith))
@@ -30,9 +18,9 @@ pub literal-at-spec : {M : Type 1} → statement M
 literal-at-spec =
     tie.close
     (tie.spec
-    literals-of-requires
-    mul-l
-    element-copy-out-l
+    (λ c κs. search needs)
+    (λ c. search needs)
+    (λ c. search needs)
     returns
-    no-literal-requires
+    (λ c κs. search needs)
     returns-2)

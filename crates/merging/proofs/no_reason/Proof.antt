@@ -4,11 +4,8 @@ use borrow.Author.Needs.{needs}
 use Rattle.merging.proofs.no_reason.Statement.{statement}
 use Rattle.merging.proofs.no_reason.Tie as tie
 
-no-instanced-requires : tie.Need-no-instanced-requires
-no-instanced-requires c κs = search needs
-
 returns : tie.Need-returns
 returns c = cc
 
 pub no-reason-spec : {M : Type 1} → statement M
-no-reason-spec = tie.close (tie.spec no-instanced-requires returns)
+no-reason-spec = tie.close (tie.spec (λ c κs. search needs) returns)

@@ -18,32 +18,8 @@ Inv-loop tau g i c n v end k₀ j₀ k j = (j ≤ end) × (k ≤ j) × (k ≡ ot
 abbrev μ-loop : tie.MeasureT-loop
 μ-loop tau g i c n v end k₀ j₀ k j = end - j
 
-literals-of-requires : tie.Need-literals-of-requires Inv-loop μ-loop
-literals-of-requires c κs = search needs
-
-least-requires : tie.Need-least-requires Inv-loop μ-loop
-least-requires c κs = search needs
-
 loop-holds : tie.Need-loop-holds Inv-loop μ-loop
 loop-holds c = (omega arith, omega arith, refl)
-
-mul-m : tie.Need-mul-m Inv-loop μ-loop
-mul-m c = search needs
-
-element-copy-out-m : tie.Need-element-copy-out-m Inv-loop μ-loop
-element-copy-out-m c = search needs
-
-is-own-requires : tie.Need-is-own-requires Inv-loop μ-loop
-is-own-requires c κs = search needs
-
-add-k : tie.Need-add-k Inv-loop μ-loop
-add-k c = search needs
-
-add-j : tie.Need-add-j Inv-loop μ-loop
-add-j c = search needs
-
-loop-less : tie.Need-loop-less Inv-loop μ-loop
-loop-less c = search needs
 
 loop-again : tie.Need-loop-again Inv-loop μ-loop
 loop-again c =
@@ -70,14 +46,14 @@ own-index-spec =
     (tie.spec
     Inv-loop
     μ-loop
-    literals-of-requires
-    least-requires
+    (λ c κs. search needs)
+    (λ c κs. search needs)
     loop-holds
-    mul-m
-    element-copy-out-m
-    is-own-requires
-    add-k
-    add-j
-    loop-less
+    (λ c. search needs)
+    (λ c. search needs)
+    (λ c κs. search needs)
+    (λ c. search needs)
+    (λ c. search needs)
+    (λ c. search needs)
     loop-again
     returns)

@@ -16,33 +16,6 @@ use Rattle.merging.proofs.Whole.{atoms-few, literals-few, few-atoms, me
 use Rattle.merging.proofs.reason_counted.Statement.{statement}
 use Rattle.merging.proofs.reason_counted.Tie as tie
 
-cast-w : tie.Need-cast-w
-cast-w c = search needs
-
-literal-at-requires : tie.Need-literal-at-requires
-literal-at-requires c κs = search needs
-
-ground-requires : tie.Need-ground-requires
-ground-requires c κs = search needs
-
-start-requires : tie.Need-start-requires
-start-requires c κs = search needs
-
-joined-own-requires : tie.Need-joined-own-requires
-joined-own-requires c κs = search needs
-
-first-atoms-requires : tie.Need-first-atoms-requires
-first-atoms-requires c κs = search needs
-
-reason-literals-requires : tie.Need-reason-literals-requires
-reason-literals-requires c κs = search needs
-
-own-index-requires : tie.Need-own-index-requires
-own-index-requires c κs = search needs
-
-first-names-requires : tie.Need-first-names-requires
-first-names-requires c κs = search needs
-
 close-up-requires : tie.Need-close-up-requires
 close-up-requires c κs =
     let a = c .before .before .before .before .before .before .before .before .before .args in
@@ -78,14 +51,14 @@ pub reason-counted-spec : {M : Type 1} → statement M
 reason-counted-spec =
     tie.close
     (tie.spec
-    cast-w
-    literal-at-requires
-    ground-requires
-    start-requires
-    joined-own-requires
-    first-atoms-requires
-    reason-literals-requires
-    own-index-requires
-    first-names-requires
+    (λ c. search needs)
+    (λ c κs. search needs)
+    (λ c κs. search needs)
+    (λ c κs. search needs)
+    (λ c κs. search needs)
+    (λ c κs. search needs)
+    (λ c κs. search needs)
+    (λ c κs. search needs)
+    (λ c κs. search needs)
     close-up-requires
     returns)

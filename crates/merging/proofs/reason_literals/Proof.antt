@@ -25,44 +25,8 @@ Inv-loop tau g i t c n v out₀ j₀ out j = (j ≤ n) × (out .n ≤ j) × (out
 abbrev μ-loop : tie.MeasureT-loop
 μ-loop tau g i t c n v out₀ j₀ out j = n - j
 
-literals-of-requires : tie.Need-literals-of-requires Inv-loop μ-loop
-literals-of-requires c κs = search needs
-
-no-literals-requires : tie.Need-no-literals-requires Inv-loop μ-loop
-no-literals-requires c κs = search needs
-
 loop-holds : tie.Need-loop-holds Inv-loop μ-loop
 loop-holds c = (omega arith, omega (arith, ap (λ (l : Literals). l .n) (c .no-literals .ensures)), c .no-literals .ensures)
-
-mul-m : tie.Need-mul-m Inv-loop μ-loop
-mul-m c = search needs
-
-element-copy-out-m : tie.Need-element-copy-out-m Inv-loop μ-loop
-element-copy-out-m c = search needs
-
-literal-by-requires : tie.Need-literal-by-requires Inv-loop μ-loop
-literal-by-requires c κs = search needs
-
-is-own-requires : tie.Need-is-own-requires Inv-loop μ-loop
-is-own-requires c κs = search needs
-
-stays-requires : tie.Need-stays-requires Inv-loop μ-loop
-stays-requires c κs = search needs
-
-mul-b : tie.Need-mul-b Inv-loop μ-loop
-mul-b c = search needs
-
-element-set-from-b : tie.Need-element-set-from-b Inv-loop μ-loop
-element-set-from-b c = search needs
-
-add-out : tie.Need-add-out Inv-loop μ-loop
-add-out c = search needs
-
-add-j : tie.Need-add-j Inv-loop μ-loop
-add-j c = search needs
-
-loop-less : tie.Need-loop-less Inv-loop μ-loop
-loop-less c = search needs
 
 loop-again : tie.Need-loop-again Inv-loop μ-loop
 loop-again c =
@@ -90,18 +54,18 @@ reason-literals-spec =
     (tie.spec
     Inv-loop
     μ-loop
-    literals-of-requires
-    no-literals-requires
+    (λ c κs. search needs)
+    (λ c κs. search needs)
     loop-holds
-    mul-m
-    element-copy-out-m
-    literal-by-requires
-    is-own-requires
-    stays-requires
-    mul-b
-    element-set-from-b
-    add-out
-    add-j
-    loop-less
+    (λ c. search needs)
+    (λ c. search needs)
+    (λ c κs. search needs)
+    (λ c κs. search needs)
+    (λ c κs. search needs)
+    (λ c. search needs)
+    (λ c. search needs)
+    (λ c. search needs)
+    (λ c. search needs)
+    (λ c. search needs)
     loop-again
     returns)

@@ -10,12 +10,6 @@ use Rattle.merging.specs.Results.{reasonOf}
 use Rattle.merging.proofs.reason_of.Statement.{statement}
 use Rattle.merging.proofs.reason_of.Tie as tie
 
-counted-requires : tie.Need-counted-requires
-counted-requires c κs = search needs
-
-no-reason-requires : tie.Need-no-reason-requires
-no-reason-requires c κs = search needs
-
 returns : tie.Need-returns
 unfolding reasonOf
 returns c = let e : counted (c .before .before .before .args .c) ≡ false = sym (c .before .before .counted .ensures) ∙ not-true (c .before .before .counted .result) (c .before .if1 .taken) in c .no-reason .ensures ∙ sym (rw e)
@@ -30,4 +24,4 @@ returns-2 c = let e : counted (c .before .before .before .args .c) ≡ true = sy
 pub reason-of-spec : {M : Type 1} → statement M
 reason-of-spec =
     tie.close
-    (tie.spec counted-requires no-reason-requires returns reason-counted-requires returns-2)
+    (tie.spec (λ c κs. search needs) (λ c κs. search needs) returns reason-counted-requires returns-2)

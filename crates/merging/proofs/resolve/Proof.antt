@@ -10,21 +10,9 @@ use Rattle.merging.specs.Results.{resolved}
 use Rattle.merging.proofs.resolve.Statement.{statement}
 use Rattle.merging.proofs.resolve.Tie as tie
 
-counted-requires : tie.Need-counted-requires
-counted-requires c κs = search needs
-
-too-large-requires : tie.Need-too-large-requires
-too-large-requires c κs = search needs
-
 returns : tie.Need-returns
 unfolding resolved
 returns c = let e : counted (c .before .before .before .before .before .args .n .clause) ≡ false = sym (c .before .before .counted .ensures) ∙ not-true (c .before .before .counted .result) (c .before .if1 .taken) in c .too-large .ensures ∙ sym (rw e)
-
-counted-requires-2 : tie.Need-counted-requires-2
-counted-requires-2 c κs = search needs
-
-too-large-requires-2 : tie.Need-too-large-requires-2
-too-large-requires-2 c κs = search needs
 
 returns-2 : tie.Need-returns-2
 unfolding resolved
@@ -45,11 +33,11 @@ pub resolve-spec : {M : Type 1} → statement M
 resolve-spec =
     tie.close
     (tie.spec
-    counted-requires
-    too-large-requires
+    (λ c κs. search needs)
+    (λ c κs. search needs)
     returns
-    counted-requires-2
-    too-large-requires-2
+    (λ c κs. search needs)
+    (λ c κs. search needs)
     returns-2
     resolve-counted-requires
     returns-3)

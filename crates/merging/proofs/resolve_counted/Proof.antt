@@ -16,36 +16,6 @@ use Rattle.merging.proofs.Whole.{atoms-few, literals-few, few-both-atom
 use Rattle.merging.proofs.resolve_counted.Statement.{statement}
 use Rattle.merging.proofs.resolve_counted.Tie as tie
 
-cast-w : tie.Need-cast-w
-cast-w c = search needs
-
-cast-w-2 : tie.Need-cast-w-2
-cast-w-2 c = search needs
-
-add-w : tie.Need-add-w
-add-w c = search needs
-
-literal-at-requires : tie.Need-literal-at-requires
-literal-at-requires c κs = search needs
-
-literal-at-requires-2 : tie.Need-literal-at-requires-2
-literal-at-requires-2 c κs = search needs
-
-start-requires : tie.Need-start-requires
-start-requires c κs = search needs
-
-joined-arguments-requires : tie.Need-joined-arguments-requires
-joined-arguments-requires c κs = search needs
-
-both-atoms-requires : tie.Need-both-atoms-requires
-both-atoms-requires c κs = search needs
-
-both-literals-requires : tie.Need-both-literals-requires
-both-literals-requires c κs = search needs
-
-both-names-requires : tie.Need-both-names-requires
-both-names-requires c κs = search needs
-
 close-up-requires : tie.Need-close-up-requires
 close-up-requires c κs =
     let a = c .before .before .before .before .before .before .before .before .before .before .before .before .args in
@@ -79,15 +49,15 @@ pub resolve-counted-spec : {M : Type 1} → statement M
 resolve-counted-spec =
     tie.close
     (tie.spec
-    cast-w
-    cast-w-2
-    add-w
-    literal-at-requires
-    literal-at-requires-2
-    start-requires
-    joined-arguments-requires
-    both-atoms-requires
-    both-literals-requires
-    both-names-requires
+    (λ c. search needs)
+    (λ c. search needs)
+    (λ c. search needs)
+    (λ c κs. search needs)
+    (λ c κs. search needs)
+    (λ c κs. search needs)
+    (λ c κs. search needs)
+    (λ c κs. search needs)
+    (λ c κs. search needs)
+    (λ c κs. search needs)
     close-up-requires
     returns)

@@ -7,18 +7,6 @@ use Rattle.inspection.proofs.States.{beside-of, shown-room}
 use Rattle.rule_cases.proofs.print_state.Statement.{statement}
 use Rattle.rule_cases.proofs.print_state.Tie as tie
 
-run-requires : tie.Need-run-requires
-run-requires c κs = search needs
-
-table-requires : tie.Need-table-requires
-table-requires c κs = search needs
-
-room-requires : tie.Need-room-requires
-room-requires c κs = search needs
-
-slice-aggregate-put-state : tie.Need-slice-aggregate-put-state
-slice-aggregate-put-state c = search needs
-
 put-state-requires : tie.Need-put-state-requires
 put-state-requires c κs = (search needs, beside-of (c .before .before .before .run .ensures) (c .before .before .table .ensures) (c .before .before .before .before .pre))
 
@@ -28,22 +16,16 @@ array-share-prefix-out c = omega (arith, shown-room (beside-of (c .before .befor
 slice-aggregate-write : tie.Need-slice-aggregate-write
 slice-aggregate-write c = sym (length-take-le (c .before .before .put-state .result) (c .before .before .put-state .last .0) (omega (arith, shown-room (beside-of (c .before .before .before .before .before .before .run .ensures) (c .before .before .before .before .before .table .ensures) (c .before .before .before .before .before .before .before .pre)) (c .before .before .put-state .ensures))))
 
-write-requires : tie.Need-write-requires
-write-requires c κs = search needs
-
-returns : tie.Need-returns
-returns c = search needs
-
 pub print-state-spec : {M : Type 1} → statement M
 print-state-spec =
     tie.close
     (tie.spec
-    run-requires
-    table-requires
-    room-requires
-    slice-aggregate-put-state
+    (λ c κs. search needs)
+    (λ c κs. search needs)
+    (λ c κs. search needs)
+    (λ c. search needs)
     put-state-requires
     array-share-prefix-out
     slice-aggregate-write
-    write-requires
-    returns)
+    (λ c κs. search needs)
+    (λ c. search needs))

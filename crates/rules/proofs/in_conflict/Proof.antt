@@ -2,24 +2,6 @@ use borrow.Author.Needs.{needs}
 use Rattle.rules.proofs.in_conflict.Statement.{statement}
 use Rattle.rules.proofs.in_conflict.Tie as tie
 
-complement-requires : tie.Need-complement-requires
-complement-requires c κs = search needs
-
-enum-told : tie.Need-enum-told
-enum-told c = search needs
-
-enum-told-2 : tie.Need-enum-told-2
-enum-told-2 c = search needs
-
-has-instance-requires : tie.Need-has-instance-requires
-has-instance-requires c κs = search needs
-
-enum-told-3 : tie.Need-enum-told-3
-enum-told-3 c = search needs
-
-has-instance-requires-2 : tie.Need-has-instance-requires-2
-has-instance-requires-2 c κs = search needs
-
 returns : tie.Need-returns
 returns c = rw (c .enum-told .given .1)
 
@@ -33,12 +15,12 @@ pub in-conflict-spec : {M : Type 1} → statement M
 in-conflict-spec =
     tie.close
     (tie.spec
-    complement-requires
-    enum-told
-    enum-told-2
-    has-instance-requires
-    enum-told-3
-    has-instance-requires-2
+    (λ c κs. search needs)
+    (λ c. search needs)
+    (λ c. search needs)
+    (λ c κs. search needs)
+    (λ c. search needs)
+    (λ c κs. search needs)
     returns
     returns-2
     returns-3)

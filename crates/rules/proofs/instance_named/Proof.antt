@@ -14,21 +14,15 @@ returns : tie.Need-returns
 returns c = simp (lt-leb _ 12 (c .if1 .taken))
 
 -- src/lib.rt:147:9
-clause-exists-requires : tie.Need-clause-exists-requires
-clause-exists-requires c κs = search needs
-
 -- src/lib.rt:148:9
 returns-2 : tie.Need-returns-2
 returns-2 c = simp (le-leb _ 12 (c .before .before .if1 .left), sym (c .before .clause-exists .ensures) ∙ not-true _ (c .if2 .taken))
 
 -- src/lib.rt:150:5
-instance-fits-requires : tie.Need-instance-fits-requires
-instance-fits-requires c κs = search needs
-
 -- src/lib.rt:132:1
 returns-3 : tie.Need-returns-3
 returns-3 c = simp (le-leb _ 12 (c .before .before .before .if1 .left), sym (c .before .before .clause-exists .ensures) ∙ not-false _ (c .before .if2 .left)) (c .instance-fits .ensures)
 
 pub instance-named-spec : {M : Type 1} → statement M
 instance-named-spec =
-    tie.close (tie.spec returns clause-exists-requires returns-2 instance-fits-requires returns-3)
+    tie.close (tie.spec returns (λ c κs. search needs) returns-2 (λ c κs. search needs) returns-3)

@@ -18,21 +18,15 @@ use Rattle.instances.proofs.literal_exists.Reads as literal-exists-reads
 use Rattle.rules.proofs.instance_named.Reads as instance-named-reads
 
 -- src/lib.rt:167:9
-literal-exists-requires : tie.Need-literal-exists-requires
-literal-exists-requires c κs = search needs
-
 -- src/lib.rt:168:9
 returns : tie.Need-returns
 returns c = no-literal (leb (c .before .before .args .count) mostVariables) (between 1 (c .before .before .args .input + c .before .before .args .learned) (c .before .before .args .c)) (instanceFits (c .before .before .args .constants) (clauseOf (c .before .before .args .clause)) (take (c .before .before .args .count) (c .before .before .args .instance))) (sym (c .before .literal-exists .ensures) ∙ not-true _ (c .if1 .taken))
 
 -- src/lib.rt:170:5
-instance-named-requires : tie.Need-instance-named-requires
-instance-named-requires c κs = search needs
-
 -- src/lib.rt:154:1
 returns-2 : tie.Need-returns-2
 returns-2 c = simp (sym (c .before .before .literal-exists .ensures) ∙ not-false _ (c .before .if1 .left)) (c .instance-named .ensures)
 
 pub literal-named-spec : {M : Type 1} → statement M
 literal-named-spec =
-    tie.close (tie.spec literal-exists-requires returns instance-named-requires returns-2)
+    tie.close (tie.spec (λ c κs. search needs) returns (λ c κs. search needs) returns-2)

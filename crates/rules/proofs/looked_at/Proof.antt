@@ -7,9 +7,6 @@ use Rattle.rules.proofs.looked_at.Lts as lts
 use Rattle.clauses.proofs.no_clause.Reads as no-clause-reads
 
 -- src/lib.rt:321:9
-no-clause-requires : tie.Need-no-clause-requires
-no-clause-requires c κs = search needs
-
 -- src/lib.rt:323:9
 returns : tie.Need-returns
 returns c = simp (lt-leb 1 _ (c .if1 .taken), c .before .no-clause .ensures)
@@ -23,4 +20,4 @@ returns-3 : tie.Need-returns-3
 returns-3 c = simp (le-leb 1 _ (c .before .if1 .left), le-leb _ 96 (c .if2 .left))
 
 pub looked-at-spec : {M : Type 1} → statement M
-looked-at-spec = tie.close (tie.spec no-clause-requires returns returns-2 returns-3)
+looked-at-spec = tie.close (tie.spec (λ c κs. search needs) returns returns-2 returns-3)

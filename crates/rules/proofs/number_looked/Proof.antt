@@ -7,9 +7,6 @@ use Rattle.rules.proofs.number_looked.Lts as lts
 use Rattle.rules.proofs.clause_named.Reads as clause-named-reads
 
 -- src/lib.rt:299:14
-clause-named-requires : tie.Need-clause-named-requires
-clause-named-requires c κs = search needs
-
 -- src/lib.rt:291:1
 returns : tie.Need-returns
 returns c = rw (c .match .keys1)
@@ -32,4 +29,4 @@ returns-5 c = simp (ne-eqb _ 1 (c .match .rest .0 .0 .0 .1), ne-eqb _ 2 (c .matc
 
 pub number-looked-spec : {M : Type 1} → statement M
 number-looked-spec =
-    tie.close (tie.spec clause-named-requires returns returns-2 returns-3 returns-4 returns-5)
+    tie.close (tie.spec (λ c κs. search needs) returns returns-2 returns-3 returns-4 returns-5)

@@ -11,12 +11,9 @@ returns : tie.Need-returns
 returns c = simp (eq-eqb _ _ (c .if1 .taken))
 
 -- src/lib.rt:269:5
-refused-requires : tie.Need-refused-requires
-refused-requires c κs = search needs
-
 -- src/lib.rt:258:1
 returns-2 : tie.Need-returns-2
 returns-2 c = simp (ne-eqb _ _ (c .before .if1 .left)) (c .refused .ensures)
 
 pub refused-at-spec : {M : Type 1} → statement M
-refused-at-spec = tie.close (tie.spec returns refused-requires returns-2)
+refused-at-spec = tie.close (tie.spec returns (λ c κs. search needs) returns-2)

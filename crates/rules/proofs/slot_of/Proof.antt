@@ -15,12 +15,9 @@ returns-2 : tie.Need-returns-2
 returns-2 c = (simp (le-leb 1 _ (c .before .if1 .left), lt-leb _ 96 (c .if2 .taken)), omega arith)
 
 -- src/lib.rt:314:5
-sub-result : tie.Need-sub-result
-sub-result c = search needs
-
 -- src/lib.rt:305:1
 returns-3 : tie.Need-returns-3
 returns-3 c = (simp (le-leb 1 _ (c .before .if1 .left), le-leb _ 96 (c .if2 .left)), omega arith)
 
 pub slot-of-spec : {M : Type 1} → statement M
-slot-of-spec = tie.close (tie.spec returns returns-2 sub-result returns-3)
+slot-of-spec = tie.close (tie.spec returns returns-2 (λ c. search needs) returns-3)

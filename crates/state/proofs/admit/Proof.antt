@@ -7,12 +7,6 @@ use borrow.Author.Needs.{needs}
 use Rattle.state.proofs.admit.Statement.{statement}
 use Rattle.state.proofs.admit.Tie as tie
 
-admit-requires : tie.Need-admit-requires
-admit-requires c κs = search needs
-
-new-state-requires : tie.Need-new-state-requires
-new-state-requires c κs = search needs
-
 returns : tie.Need-returns
 unfolding exactly
 returns c = let a = c .before .before .before .before .before .args in let A = offeredArities (a .predicates) (a .arities) in opens-refused (a .constants) A (offeredTable A (a .count) (a .clauses)) (c .before .before .before .before .admit .ensures) (c .before .if1 .taken) _ (c .new-state .ensures)
@@ -25,4 +19,4 @@ returns-2 c = let a = c .before .before .before .before .before .args in let A =
 
 pub admit-spec : {M : Type 1} → statement M
 admit-spec =
-    tie.close (tie.spec admit-requires new-state-requires returns new-state-requires-2 returns-2)
+    tie.close (tie.spec (λ c κs. search needs) (λ c κs. search needs) returns new-state-requires-2 returns-2)

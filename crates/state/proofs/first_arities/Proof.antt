@@ -19,18 +19,6 @@ abbrev μ-loop : tie.MeasureT-loop
 loop-holds : tie.Need-loop-holds Inv-loop μ-loop
 loop-holds c = (omega arith, sym (exactly-none 0 mostPredicates))
 
-array-read-out : tie.Need-array-read-out Inv-loop μ-loop
-array-read-out c = search needs
-
-array-write-out : tie.Need-array-write-out Inv-loop μ-loop
-array-write-out c = search needs
-
-add-j : tie.Need-add-j Inv-loop μ-loop
-add-j c = search needs
-
-loop-less : tie.Need-loop-less Inv-loop μ-loop
-loop-less c = search needs
-
 loop-again : tie.Need-loop-again Inv-loop μ-loop
 loop-again c = let a = c .before .before .args in let s = c .before .loop in (omega arith, ap (λ (l : List ℕ). set l (s .j) (getD (a .t2) (s .j) 0)) (s .inv .1) ∙ copied-turn mostPredicates 0 (a .t2) (s .j) (omega arith) (omega arith))
 
@@ -44,9 +32,9 @@ first-arities-spec =
     Inv-loop
     μ-loop
     loop-holds
-    array-read-out
-    array-write-out
-    add-j
-    loop-less
+    (λ c. search needs)
+    (λ c. search needs)
+    (λ c. search needs)
+    (λ c. search needs)
     loop-again
     returns)

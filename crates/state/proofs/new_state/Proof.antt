@@ -6,18 +6,9 @@ use borrow.Author.Needs.{needs}
 use Rattle.state.proofs.new_state.Statement.{statement}
 use Rattle.state.proofs.new_state.Tie as tie
 
-new-run-requires : tie.Need-new-run-requires
-new-run-requires c κs = search needs
-
-first-arities-requires : tie.Need-first-arities-requires
-first-arities-requires c κs = search needs
-
-with-room-requires : tie.Need-with-room-requires
-with-room-requires c κs = search needs
-
 returns : tie.Need-returns
 returns c = let a = c .before .before .before .args in λ cs e n h. (λ i. record { run = c .before .before .new-run .ensures i; predicates = sym (exactly-length 0 (a .predicates) (a .arities)) i; arities = c .before .first-arities .ensures i; table = c .with-room .ensures i }) ∙ new-is (a .constants) (a .count) (offeredArities (a .predicates) (a .arities)) (a .clauses) cs e n h
 
 pub new-state-spec : {M : Type 1} → statement M
 new-state-spec =
-    tie.close (tie.spec new-run-requires first-arities-requires with-room-requires returns)
+    tie.close (tie.spec (λ c κs. search needs) (λ c κs. search needs) (λ c κs. search needs) returns)

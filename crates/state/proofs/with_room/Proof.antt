@@ -21,29 +21,8 @@ Inv-loop clauses out₀ j₀ out j = (j ≤ mostInput) × (out ≡ exactly mostC
 abbrev μ-loop : tie.MeasureT-loop
 μ-loop clauses out₀ j₀ out j = mostInput - j
 
-no-clause-requires : tie.Need-no-clause-requires Inv-loop μ-loop
-no-clause-requires c κs = search needs
-
 loop-holds : tie.Need-loop-holds Inv-loop μ-loop
 loop-holds c = (omega arith, ap (λ (b : Clause). replicate mostClauses b) (c .no-clause .ensures) ∙ sym (exactly-none (packed noClause) mostClauses))
-
-mul-c : tie.Need-mul-c Inv-loop μ-loop
-mul-c c = search needs
-
-array-copy-out-c : tie.Need-array-copy-out-c Inv-loop μ-loop
-array-copy-out-c c = search needs
-
-mul-out : tie.Need-mul-out Inv-loop μ-loop
-mul-out c = search needs
-
-array-set-from-out : tie.Need-array-set-from-out Inv-loop μ-loop
-array-set-from-out c = search needs
-
-add-j : tie.Need-add-j Inv-loop μ-loop
-add-j c = search needs
-
-loop-less : tie.Need-loop-less Inv-loop μ-loop
-loop-less c = search needs
 
 loop-again : tie.Need-loop-again Inv-loop μ-loop
 loop-again c = let a = c .before .before .before .before .args in let s = c .before .before .loop in (omega arith, ap (λ (l : List Clause). set l (s .j) (getD (a .t1) (s .j) pastTable)) (s .inv .1) ∙ ap (set (exactly mostClauses (packed noClause) (take (s .j) (a .t1))) (s .j)) (getD-any (a .t1) (s .j) pastTable (packed noClause) (omega arith)) ∙ copied-turn mostClauses (packed noClause) (a .t1) (s .j) (omega arith) (omega arith))
@@ -57,13 +36,13 @@ with-room-spec =
     (tie.spec
     Inv-loop
     μ-loop
-    no-clause-requires
+    (λ c κs. search needs)
     loop-holds
-    mul-c
-    array-copy-out-c
-    mul-out
-    array-set-from-out
-    add-j
-    loop-less
+    (λ c. search needs)
+    (λ c. search needs)
+    (λ c. search needs)
+    (λ c. search needs)
+    (λ c. search needs)
+    (λ c. search needs)
     loop-again
     returns)

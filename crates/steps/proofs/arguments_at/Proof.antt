@@ -6,42 +6,6 @@ use borrow.Author.Needs.{needs}
 use Rattle.steps.proofs.arguments_at.Statement.{statement}
 use Rattle.steps.proofs.arguments_at.Tie as tie
 
-propagate-at-requires : tie.Need-propagate-at-requires
-propagate-at-requires c κs = search needs
-
-decide-at-requires : tie.Need-decide-at-requires
-decide-at-requires c κs = search needs
-
-byte-at-requires : tie.Need-byte-at-requires
-byte-at-requires c κs = search needs
-
-instanced-at-requires : tie.Need-instanced-at-requires
-instanced-at-requires c κs = search needs
-
-byte-at-requires-2 : tie.Need-byte-at-requires-2
-byte-at-requires-2 c κs = search needs
-
-bare-requires : tie.Need-bare-requires
-bare-requires c κs = search needs
-
-factorize-at-requires : tie.Need-factorize-at-requires
-factorize-at-requires c κs = search needs
-
-bare-requires-2 : tie.Need-bare-requires-2
-bare-requires-2 c κs = search needs
-
-byte-at-requires-3 : tie.Need-byte-at-requires-3
-byte-at-requires-3 c κs = search needs
-
-bare-requires-3 : tie.Need-bare-requires-3
-bare-requires-3 c κs = search needs
-
-byte-at-requires-4 : tie.Need-byte-at-requires-4
-byte-at-requires-4 c κs = search needs
-
-bare-requires-4 : tie.Need-bare-requires-4
-bare-requires-4 c κs = search needs
-
 returns : tie.Need-returns
 returns c = rw (c .before .match .keys1) (c .propagate-at .ensures)
 
@@ -70,18 +34,18 @@ pub arguments-at-spec : {M : Type 1} → statement M
 arguments-at-spec =
     tie.close
     (tie.spec
-    propagate-at-requires
-    decide-at-requires
-    byte-at-requires
-    instanced-at-requires
-    byte-at-requires-2
-    bare-requires
-    factorize-at-requires
-    bare-requires-2
-    byte-at-requires-3
-    bare-requires-3
-    byte-at-requires-4
-    bare-requires-4
+    (λ c κs. search needs)
+    (λ c κs. search needs)
+    (λ c κs. search needs)
+    (λ c κs. search needs)
+    (λ c κs. search needs)
+    (λ c κs. search needs)
+    (λ c κs. search needs)
+    (λ c κs. search needs)
+    (λ c κs. search needs)
+    (λ c κs. search needs)
+    (λ c κs. search needs)
+    (λ c κs. search needs)
     returns
     returns-2
     returns-3

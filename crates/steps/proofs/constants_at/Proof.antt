@@ -19,18 +19,6 @@ abbrev μ-loop : tie.MeasureT-loop
 loop-holds : tie.Need-loop-holds Inv-loop μ-loop
 loop-holds c = (omega arith, fills-none (c .before .args .at))
 
-byte-at-requires : tie.Need-byte-at-requires Inv-loop μ-loop
-byte-at-requires c κs = search needs
-
-array-write-instance : tie.Need-array-write-instance Inv-loop μ-loop
-array-write-instance c = search needs
-
-add-j : tie.Need-add-j Inv-loop μ-loop
-add-j c = search needs
-
-loop-less : tie.Need-loop-less Inv-loop μ-loop
-loop-less c = search needs
-
 loop-again : tie.Need-loop-again Inv-loop μ-loop
 loop-again c = (omega arith, fills-more (c .byte-at .result .at) (c .byte-at .result .value) (c .before .before .loop .inv .1) (omega arith) (told-view (c .byte-at .ensures)))
 
@@ -44,9 +32,9 @@ constants-at-spec =
     Inv-loop
     μ-loop
     loop-holds
-    byte-at-requires
-    array-write-instance
-    add-j
-    loop-less
+    (λ c κs. search needs)
+    (λ c. search needs)
+    (λ c. search needs)
+    (λ c. search needs)
     loop-again
     returns)

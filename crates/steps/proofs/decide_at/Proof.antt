@@ -6,22 +6,10 @@ use borrow.Author.Needs.{needs}
 use Rattle.steps.proofs.decide_at.Statement.{statement}
 use Rattle.steps.proofs.decide_at.Tie as tie
 
-byte-at-requires : tie.Need-byte-at-requires
-byte-at-requires c κs = search needs
-
-byte-at-requires-2 : tie.Need-byte-at-requires-2
-byte-at-requires-2 c κs = search needs
-
-within-at-requires : tie.Need-within-at-requires
-within-at-requires c κs = search needs
-
-instanced-at-requires : tie.Need-instanced-at-requires
-instanced-at-requires c κs = search needs
-
 returns : tie.Need-returns
 returns c = rw (c .instanced-at .ensures .is) (decide-parts (now (c .before .before .before .before .before .args .s)) (c .before .before .before .before .before .args .at) (c .before .before .before .byte-at .result .at) (c .before .before .byte-at2 .result .at) (c .before .within-at .result .at) (c .instanced-at .result .at) (c .before .before .before .byte-at .result .value) (c .before .before .byte-at2 .result .value) (c .before .within-at .result .value) _ (told-view (c .before .before .before .byte-at .ensures)) (told-view (c .before .before .byte-at2 .ensures)) (told-view (c .before .within-at .ensures)) (c .instanced-at .ensures .reads))
 
 pub decide-at-spec : {M : Type 1} → statement M
 decide-at-spec =
     tie.close
-    (tie.spec byte-at-requires byte-at-requires-2 within-at-requires instanced-at-requires returns)
+    (tie.spec (λ c κs. search needs) (λ c κs. search needs) (λ c κs. search needs) (λ c κs. search needs) returns)

@@ -5,14 +5,8 @@ use borrow.Author.Needs.{needs}
 use Rattle.steps.proofs.end_at.Statement.{statement}
 use Rattle.steps.proofs.end_at.Tie as tie
 
-enum-known-at : tie.Need-enum-known-at
-enum-known-at c = search needs
-
 returns : tie.Need-returns
 returns c = rw (c .before .before .at .given .1) (end-here (now (c .before .before .before .before .args .s)) (c .before .before .at .given .0 .0) (c .if1 .taken))
-
-enum-known-at-2 : tie.Need-enum-known-at-2
-enum-known-at-2 c = search needs
 
 returns-2 : tie.Need-returns-2
 returns-2 c = rw (c .before .before .at .given .1) (end-before (now (c .before .before .before .before .args .s)) (c .before .before .at .given .0 .0) (c .if1 .left))
@@ -21,4 +15,4 @@ returns-3 : tie.Need-returns-3
 returns-3 c = rw (c .before .at2 .given .1)
 
 pub end-at-spec : {M : Type 1} → statement M
-end-at-spec = tie.close (tie.spec enum-known-at returns enum-known-at-2 returns-2 returns-3)
+end-at-spec = tie.close (tie.spec (λ c. search needs) returns (λ c. search needs) returns-2 returns-3)

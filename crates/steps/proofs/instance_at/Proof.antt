@@ -8,9 +8,6 @@ use borrow.Author.Needs.{needs}
 use Rattle.steps.proofs.instance_at.Statement.{statement}
 use Rattle.steps.proofs.instance_at.Tie as tie
 
-count-at-requires : tie.Need-count-at-requires
-count-at-requires c κs = search needs
-
 constants-at-requires : tie.Need-constants-at-requires
 constants-at-requires c κs = c .count-at .ensures .1
 
@@ -20,4 +17,4 @@ returns c = let e = c .constants-at .ensures .0 in
     (rw e (instance-parts (now (c .before .before .before .args .s)) (c .before .before .before .args .at) (c .before .count-at .result .at) (c .constants-at .result .at) (c .before .count-at .result .value) (take (c .before .count-at .result .value) (c .constants-at .result .instance)) (told-view (c .before .count-at .ensures .0)) (c .constants-at .ensures .1 .reads)), omega arith, rw e (c .constants-at .ensures .1 .filled))
 
 pub instance-at-spec : {M : Type 1} → statement M
-instance-at-spec = tie.close (tie.spec count-at-requires constants-at-requires returns)
+instance-at-spec = tie.close (tie.spec (λ c κs. search needs) constants-at-requires returns)

@@ -6,18 +6,9 @@ use borrow.Author.Needs.{needs}
 use Rattle.steps.proofs.propagate_at.Statement.{statement}
 use Rattle.steps.proofs.propagate_at.Tie as tie
 
-byte-at-requires : tie.Need-byte-at-requires
-byte-at-requires c κs = search needs
-
-byte-at-requires-2 : tie.Need-byte-at-requires-2
-byte-at-requires-2 c κs = search needs
-
-instanced-at-requires : tie.Need-instanced-at-requires
-instanced-at-requires c κs = search needs
-
 returns : tie.Need-returns
 returns c = rw (c .instanced-at .ensures .is) (propagate-parts (now (c .before .before .before .before .args .s)) (c .before .before .before .before .args .at) (c .before .before .byte-at .result .at) (c .before .byte-at2 .result .at) (c .instanced-at .result .at) (c .before .before .byte-at .result .value) (c .before .byte-at2 .result .value) _ (told-view (c .before .before .byte-at .ensures)) (told-view (c .before .byte-at2 .ensures)) (c .instanced-at .ensures .reads))
 
 pub propagate-at-spec : {M : Type 1} → statement M
 propagate-at-spec =
-    tie.close (tie.spec byte-at-requires byte-at-requires-2 instanced-at-requires returns)
+    tie.close (tie.spec (λ c κs. search needs) (λ c κs. search needs) (λ c κs. search needs) returns)

@@ -5,24 +5,6 @@ use borrow.Author.Needs.{needs}
 use Rattle.steps.proofs.read_file.Statement.{statement}
 use Rattle.steps.proofs.read_file.Tie as tie
 
-read-header-requires : tie.Need-read-header-requires
-read-header-requires c κs = search needs
-
-steps-end-requires : tie.Need-steps-end-requires
-steps-end-requires c κs = search needs
-
-end-at-requires : tie.Need-end-at-requires
-end-at-requires c κs = search needs
-
-enum-known-last : tie.Need-enum-known-last
-enum-known-last c = search needs
-
-enum-known-last-2 : tie.Need-enum-known-last-2
-enum-known-last-2 c = search needs
-
-no-header-requires : tie.Need-no-header-requires
-no-header-requires c κs = search needs
-
 returns : tie.Need-returns
 returns c = file-read (now (c .before .before .before .before .before .before .before .args .s)) (c .before .before .before .before .before .read-header .result) (c .before .before .before .before .steps-end .result) (c .before .before .before .end-at .result) (c .before .before .before .before .before .read-header .ensures) (c .before .before .before .before .steps-end .ensures) (c .before .before .before .end-at .ensures) (c .before .last .given .0 .0) (c .before .last .given .1)
 
@@ -33,11 +15,11 @@ pub read-file-spec : {M : Type 1} → statement M
 read-file-spec =
     tie.close
     (tie.spec
-    read-header-requires
-    steps-end-requires
-    end-at-requires
-    enum-known-last
-    enum-known-last-2
-    no-header-requires
+    (λ c κs. search needs)
+    (λ c κs. search needs)
+    (λ c κs. search needs)
+    (λ c. search needs)
+    (λ c. search needs)
+    (λ c κs. search needs)
     returns
     returns-2)

@@ -21,23 +21,8 @@ abbrev μ-loop : tie.MeasureT-loop
 loop-holds : tie.Need-loop-holds Inv-loop μ-loop
 loop-holds c = (omega arith, ends-none (now (c .before .args .s)) step (c .before .args .at))
 
-step-from-requires : tie.Need-step-from-requires Inv-loop μ-loop
-step-from-requires c κs = search needs
-
-enum-known-next : tie.Need-enum-known-next Inv-loop μ-loop
-enum-known-next c = search needs
-
 returns : tie.Need-returns Inv-loop μ-loop
 returns c = let g = c .before .next .given in sym (g .1) ∙ ends-refused (now (c .before .before .before .before .before .before .before .args .s)) step (c .before .before .before .before .before .before .before .args .at) (c .before .before .before .step-from .result .at) (c .before .before .before .before .before .loop .j + 1) (c .before .before .before .before .before .before .before .args .n) (g .0 .0) (g .0 .1 .0) (g .1) (omega arith) (ends-more (now (c .before .before .before .before .before .before .before .args .s)) step (c .before .before .before .before .before .before .before .args .at) (c .before .before .before .before .before .loop .past) (c .before .before .before .step-from .result .at) (c .before .before .before .before .before .loop .j) (c .before .before .before .before .before .loop .inv .1) (step-ends (now (c .before .before .before .before .before .before .before .args .s)) (c .before .before .before .before .before .loop .past) (c .before .before .before .step-from .result .at) (c .before .before .before .step-from .result .step) (c .before .before .before .step-from .ensures)))
-
-enum-told : tie.Need-enum-told Inv-loop μ-loop
-enum-told c = search needs
-
-add-j : tie.Need-add-j Inv-loop μ-loop
-add-j c = search needs
-
-loop-less : tie.Need-loop-less Inv-loop μ-loop
-loop-less c = search needs
 
 loop-again : tie.Need-loop-again Inv-loop μ-loop
 loop-again c = (omega arith, ends-more (now (c .before .before .before .before .before .before .args .s)) step (c .before .before .before .before .before .before .args .at) (c .before .before .before .before .loop .past) (c .before .before .step-from .result .at) (c .before .before .before .before .loop .j) (c .before .before .before .before .loop .inv .1) (step-ends (now (c .before .before .before .before .before .before .args .s)) (c .before .before .before .before .loop .past) (c .before .before .step-from .result .at) (c .before .before .step-from .result .step) (c .before .before .step-from .ensures)))
@@ -48,4 +33,4 @@ returns-2 c = let e : c .before .loop .j ≡ c .before .before .before .args .n 
 pub steps-end-spec : {M : Type 1} → statement M
 steps-end-spec =
     tie.close
-    (tie.spec Inv-loop μ-loop loop-holds step-from-requires enum-known-next returns enum-told add-j loop-less loop-again returns-2)
+    (tie.spec Inv-loop μ-loop loop-holds (λ c κs. search needs) (λ c. search needs) returns (λ c. search needs) (λ c. search needs) (λ c. search needs) loop-again returns-2)

@@ -34,12 +34,6 @@ Inv-loop2 len instance count clause n own atoms₀ m₀ left known j₀ atoms m 
 abbrev μ-loop2 : tie.MeasureT-loop2
 μ-loop2 len instance count clause n own atoms₀ m₀ left known j₀ atoms m j = own - j
 
-atoms-of-requires : tie.Need-atoms-of-requires Inv-loop μ-loop Inv-loop2 μ-loop2
-atoms-of-requires c κs = search needs
-
-no-atom-requires : tie.Need-no-atom-requires Inv-loop μ-loop Inv-loop2 μ-loop2
-no-atom-requires c κs = search needs
-
 loop-holds : tie.Need-loop-holds Inv-loop μ-loop Inv-loop2 μ-loop2
 loop-holds c =
     let none : c .before .before .args .length - c .before .before .args .length ≡ 0 = omega arith in (
@@ -49,33 +43,6 @@ loop-holds c =
       rw none,
       rw none (ap (replicate mostTested) (c .no-atom .ensures) ∙ sym (exactly-none noAtom mostTested)),
     )
-
-sub-e : tie.Need-sub-e Inv-loop μ-loop Inv-loop2 μ-loop2
-sub-e c = search needs
-
-mul-e : tie.Need-mul-e Inv-loop μ-loop Inv-loop2 μ-loop2
-mul-e c = search needs
-
-array-copy-out-e : tie.Need-array-copy-out-e Inv-loop μ-loop Inv-loop2 μ-loop2
-array-copy-out-e c = search needs
-
-sub-left : tie.Need-sub-left Inv-loop μ-loop Inv-loop2 μ-loop2
-sub-left c = search needs
-
-is-background-requires : tie.Need-is-background-requires Inv-loop μ-loop Inv-loop2 μ-loop2
-is-background-requires c κs = search needs
-
-mul-atoms : tie.Need-mul-atoms Inv-loop μ-loop Inv-loop2 μ-loop2
-mul-atoms c = search needs
-
-array-set-from-atoms : tie.Need-array-set-from-atoms Inv-loop μ-loop Inv-loop2 μ-loop2
-array-set-from-atoms c = search needs
-
-add-m : tie.Need-add-m Inv-loop μ-loop Inv-loop2 μ-loop2
-add-m c = search needs
-
-loop-less : tie.Need-loop-less Inv-loop μ-loop Inv-loop2 μ-loop2
-loop-less c = search needs
 
 loop-again : tie.Need-loop-again Inv-loop μ-loop Inv-loop2 μ-loop2
 loop-again c =
@@ -88,9 +55,6 @@ loop-again c =
     (atoms-turn (args .t1) k (sym (c .before .before .is-background .ensures) ∙ c .before .if1 .taken)) in
     rw next (omega arith, search needs, omega arith, t .0, t .1)
 
-loop-less-2 : tie.Need-loop-less-2 Inv-loop μ-loop Inv-loop2 μ-loop2
-loop-less-2 c = search needs
-
 loop-again-2 : tie.Need-loop-again-2 Inv-loop μ-loop Inv-loop2 μ-loop2
 loop-again-2 c =
     let args = c .before .before .before .before .before .before .before .args in
@@ -100,38 +64,14 @@ loop-again-2 c =
     let e = atoms-skip (args .t1) k (sym (c .before .is-background .ensures) ∙ c .if1 .left) in
     rw next (omega arith, search needs, omega arith, loop .inv .3 ∙ ap length (sym e), loop .inv .4 ∙ ap (exactly mostTested noAtom) (sym e))
 
-cast-known : tie.Need-cast-known Inv-loop μ-loop Inv-loop2 μ-loop2
-cast-known c = search needs
-
 loop2-holds : tie.Need-loop2-holds Inv-loop μ-loop Inv-loop2 μ-loop2
 loop2-holds c =
     let loop = c .before .loop in
     let e = gathered-first (loop .m) (loop .atoms) _ (loop .inv .3) (loop .inv .4) (omega arith) in
     (omega arith, omega arith, loop .inv .3 ∙ ap length (sym e), loop .inv .4 ∙ ap (exactly mostTested noAtom) (sym e))
 
-mul-b : tie.Need-mul-b Inv-loop μ-loop Inv-loop2 μ-loop2
-mul-b c = search needs
-
-element-copy-out-b : tie.Need-element-copy-out-b Inv-loop μ-loop Inv-loop2 μ-loop2
-element-copy-out-b c = search needs
-
-ground-atom-requires : tie.Need-ground-atom-requires Inv-loop μ-loop Inv-loop2 μ-loop2
-ground-atom-requires c κs = search needs
-
-mul-atoms-2 : tie.Need-mul-atoms-2 Inv-loop μ-loop Inv-loop2 μ-loop2
-mul-atoms-2 c = search needs
-
 array-set-from-atoms-2 : tie.Need-array-set-from-atoms-2 Inv-loop μ-loop Inv-loop2 μ-loop2
 array-set-from-atoms-2 c = omega (arith, c .before .before .before .before .before .before .before .atoms-of .ensures .few)
-
-add-m-2 : tie.Need-add-m-2 Inv-loop μ-loop Inv-loop2 μ-loop2
-add-m-2 c = search needs
-
-add-j : tie.Need-add-j Inv-loop μ-loop Inv-loop2 μ-loop2
-add-j c = search needs
-
-loop2-less : tie.Need-loop2-less Inv-loop μ-loop Inv-loop2 μ-loop2
-loop2-less c = search needs
 
 loop2-again : tie.Need-loop2-again Inv-loop μ-loop Inv-loop2 μ-loop2
 loop2-again c =
@@ -176,31 +116,31 @@ gathered-spec =
     μ-loop
     Inv-loop2
     μ-loop2
-    atoms-of-requires
-    no-atom-requires
+    (λ c κs. search needs)
+    (λ c κs. search needs)
     loop-holds
-    sub-e
-    mul-e
-    array-copy-out-e
-    sub-left
-    is-background-requires
-    mul-atoms
-    array-set-from-atoms
-    add-m
-    loop-less
+    (λ c. search needs)
+    (λ c. search needs)
+    (λ c. search needs)
+    (λ c. search needs)
+    (λ c κs. search needs)
+    (λ c. search needs)
+    (λ c. search needs)
+    (λ c. search needs)
+    (λ c. search needs)
     loop-again
-    loop-less-2
+    (λ c. search needs)
     loop-again-2
-    cast-known
+    (λ c. search needs)
     loop2-holds
-    mul-b
-    element-copy-out-b
-    ground-atom-requires
-    mul-atoms-2
+    (λ c. search needs)
+    (λ c. search needs)
+    (λ c κs. search needs)
+    (λ c. search needs)
     array-set-from-atoms-2
-    add-m-2
-    add-j
-    loop2-less
+    (λ c. search needs)
+    (λ c. search needs)
+    (λ c. search needs)
     loop2-again
     cast-all
     returns)

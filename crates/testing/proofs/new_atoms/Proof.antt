@@ -32,15 +32,6 @@ Inv-atoms atoms n at₀ m₀ j₀ at m j =
 abbrev μ-atoms : tie.MeasureT-atoms
 μ-atoms atoms n at₀ m₀ j₀ at m j = n - j
 
-cast-n : tie.Need-cast-n Inv-loop μ-loop Inv-atoms μ-atoms
-cast-n c = search needs
-
-no-atom-requires : tie.Need-no-atom-requires Inv-loop μ-loop Inv-atoms μ-atoms
-no-atom-requires c κs = search needs
-
-cast-j : tie.Need-cast-j Inv-loop μ-loop Inv-atoms μ-atoms
-cast-j c = search needs
-
 atoms-holds : tie.Need-atoms-holds Inv-loop μ-loop Inv-atoms μ-atoms
 atoms-holds c =
     let args = c .before .before .before .before .args in
@@ -55,29 +46,8 @@ atoms-holds c =
       room .few-step,
     )
 
-mul-a : tie.Need-mul-a Inv-loop μ-loop Inv-atoms μ-atoms
-mul-a c = search needs
-
-array-copy-out-a : tie.Need-array-copy-out-a Inv-loop μ-loop Inv-atoms μ-atoms
-array-copy-out-a c = search needs
-
 loop-holds : tie.Need-loop-holds Inv-loop μ-loop Inv-atoms μ-atoms
 loop-holds c = (refl, omega arith, refl)
-
-mul-b : tie.Need-mul-b Inv-loop μ-loop Inv-atoms μ-atoms
-mul-b c = search needs
-
-array-copy-out-b : tie.Need-array-copy-out-b Inv-loop μ-loop Inv-atoms μ-atoms
-array-copy-out-b c = search needs
-
-same-atom-requires : tie.Need-same-atom-requires Inv-loop μ-loop Inv-atoms μ-atoms
-same-atom-requires c κs = search needs
-
-add-j : tie.Need-add-j Inv-loop μ-loop Inv-atoms μ-atoms
-add-j c = search needs
-
-atoms-less : tie.Need-atoms-less Inv-loop μ-loop Inv-atoms μ-atoms
-atoms-less c = search needs
 
 atoms-again : tie.Need-atoms-again Inv-loop μ-loop Inv-atoms μ-atoms
 atoms-again c =
@@ -100,12 +70,6 @@ atoms-again c =
       atoms .inv .6,
     )
 
-add-i : tie.Need-add-i Inv-loop μ-loop Inv-atoms μ-atoms
-add-i c = search needs
-
-loop-less : tie.Need-loop-less Inv-loop μ-loop Inv-atoms μ-atoms
-loop-less c = search needs
-
 loop-again : tie.Need-loop-again Inv-loop μ-loop Inv-atoms μ-atoms
 loop-again c =
     let args = c .before .before .before .before .before .before .before .before .before .before .before .before .args in
@@ -117,21 +81,6 @@ loop-again c =
       anyOf-not (sameAtom (getD (args .tested .atoms) (atoms .j) noAtom)) (args .tested .atoms) (loop .i) noAtom (omega arith) (loop .inv .2)
           (sym (c .before .same-atom .ensures) ∙ c .if1 .left),
     )
-
-mul-at : tie.Need-mul-at Inv-loop μ-loop Inv-atoms μ-atoms
-mul-at c = search needs
-
-array-set-from-at : tie.Need-array-set-from-at Inv-loop μ-loop Inv-atoms μ-atoms
-array-set-from-at c = search needs
-
-add-m : tie.Need-add-m Inv-loop μ-loop Inv-atoms μ-atoms
-add-m c = search needs
-
-add-j-2 : tie.Need-add-j-2 Inv-loop μ-loop Inv-atoms μ-atoms
-add-j-2 c = search needs
-
-atoms-less-2 : tie.Need-atoms-less-2 Inv-loop μ-loop Inv-atoms μ-atoms
-atoms-less-2 c = search needs
 
 atoms-again-2 : tie.Need-atoms-again-2 Inv-loop μ-loop Inv-atoms μ-atoms
 atoms-again-2 c =
@@ -146,9 +95,6 @@ atoms-again-2 c =
     (new-turn l known (atoms .j) (omega arith) (omega arith) (rw end at (loop .inv .2))) in
     let here : loop .j + 1 ≡ atoms .j + 1 = omega arith in
     rw here (omega arith, omega arith, omega arith, t .0, t .1, atoms .inv .5, atoms .inv .6)
-
-cast-found : tie.Need-cast-found Inv-loop μ-loop Inv-atoms μ-atoms
-cast-found c = search needs
 
 returns : tie.Need-returns Inv-loop μ-loop Inv-atoms μ-atoms
 returns c =
@@ -165,27 +111,27 @@ new-atoms-spec =
     μ-loop
     Inv-atoms
     μ-atoms
-    cast-n
-    no-atom-requires
-    cast-j
+    (λ c. search needs)
+    (λ c κs. search needs)
+    (λ c. search needs)
     atoms-holds
-    mul-a
-    array-copy-out-a
+    (λ c. search needs)
+    (λ c. search needs)
     loop-holds
-    mul-b
-    array-copy-out-b
-    same-atom-requires
-    add-j
-    atoms-less
+    (λ c. search needs)
+    (λ c. search needs)
+    (λ c κs. search needs)
+    (λ c. search needs)
+    (λ c. search needs)
     atoms-again
-    add-i
-    loop-less
+    (λ c. search needs)
+    (λ c. search needs)
     loop-again
-    mul-at
-    array-set-from-at
-    add-m
-    add-j-2
-    atoms-less-2
+    (λ c. search needs)
+    (λ c. search needs)
+    (λ c. search needs)
+    (λ c. search needs)
+    (λ c. search needs)
     atoms-again-2
-    cast-found
+    (λ c. search needs)
     returns)

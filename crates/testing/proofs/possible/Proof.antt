@@ -5,18 +5,6 @@ use borrow.Author.Needs.{needs}
 use Rattle.testing.proofs.possible.Statement.{statement}
 use Rattle.testing.proofs.possible.Tie as tie
 
-possible-requires : tie.Need-possible-requires
-possible-requires c κs = search needs
-
-enum-told : tie.Need-enum-told
-enum-told c = search needs
-
-enum-told-2 : tie.Need-enum-told-2
-enum-told-2 c = search needs
-
-enum-known-answer : tie.Need-enum-known-answer
-enum-known-answer c = search needs
-
 returns : tie.Need-returns
 returns c =
     let args = c .before .before .before .before .args in
@@ -39,10 +27,10 @@ pub possible-spec : {M : Type 1} → statement M
 possible-spec =
     tie.close
     (tie.spec
-    possible-requires
-    enum-told
-    enum-told-2
-    enum-known-answer
+    (λ c κs. search needs)
+    (λ c. search needs)
+    (λ c. search needs)
+    (λ c. search needs)
     returns
     returns-2
     returns-3)

@@ -11,26 +11,14 @@ use Rattle.text.proofs.put_signed.Tie as tie
 put-byte-requires : tie.Need-put-byte-requires
 put-byte-requires c κs = omega (arith, ap length (below-text (c .before .before .before .fits .n) refl (c .before .if1 .taken)))
 
-size-requires : tie.Need-size-requires
-size-requires c κs = search needs
-
 put-decimal-requires : tie.Need-put-decimal-requires
 put-decimal-requires c κs = omega (arith, ap length (below-text (c .before .before .before .before .before .before .before .before .fits .n) (c .size .ensures) (c .before .before .before .before .before .before .if1 .taken)))
-
-same-length : tie.Need-same-length
-same-length c = search needs
 
 returns : tie.Need-returns
 returns c = as-text (below-text (c .before .before .before .before .before .before .before .before .before .before .before .fits .n) (c .before .before .before .size .ensures) (c .before .before .before .before .before .before .before .before .before .if1 .taken)) (and-then (c .before .before .before .before .before .before .before .put-byte .ensures) (c .before .before .put-decimal .ensures))
 
-size-requires-2 : tie.Need-size-requires-2
-size-requires-2 c κs = search needs
-
 put-decimal-requires-2 : tie.Need-put-decimal-requires-2
 put-decimal-requires-2 c κs = omega (arith, ap length (above-text (c .before .before .before .before .fits .n) (c .size2 .ensures) (c .before .before .if1 .left)))
-
-same-length-2 : tie.Need-same-length-2
-same-length-2 c = search needs
 
 returns-2 : tie.Need-returns-2
 returns-2 c = as-text (above-text (c .before .before .before .before .before .before .before .fits .n) (c .before .before .before .size2 .ensures) (c .before .before .before .before .before .if1 .left)) (c .before .before .put-decimal2 .ensures)
@@ -40,11 +28,11 @@ put-signed-spec =
     tie.close
     (tie.spec
     put-byte-requires
-    size-requires
+    (λ c κs. search needs)
     put-decimal-requires
-    same-length
+    (λ c. search needs)
     returns
-    size-requires-2
+    (λ c κs. search needs)
     put-decimal-requires-2
-    same-length-2
+    (λ c. search needs)
     returns-2)

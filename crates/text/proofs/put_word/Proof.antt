@@ -18,29 +18,8 @@ abbrev μ-loop : tie.MeasureT-loop
 loop-holds : tie.Need-loop-holds Inv-loop μ-loop
 loop-holds c = (search needs, refl, refl)
 
-shared-slice-read-out : tie.Need-shared-slice-read-out Inv-loop μ-loop
-shared-slice-read-out c = search needs
-
-add-out : tie.Need-add-out Inv-loop μ-loop
-add-out c = search needs
-
-slice-write-out : tie.Need-slice-write-out Inv-loop μ-loop
-slice-write-out c = search needs
-
-add-j : tie.Need-add-j Inv-loop μ-loop
-add-j c = search needs
-
-loop-less : tie.Need-loop-less Inv-loop μ-loop
-loop-less c = search needs
-
 loop-again : tie.Need-loop-again Inv-loop μ-loop
 loop-again c = (search needs, simp length-set (c .before .before .loop .inv .1), ap (λ (l : List ℕ). set l (c .before .before .before .args .at + c .before .before .loop .j) (getD (now (c .before .before .before .args .word)) (c .before .before .loop .j) 0)) (c .before .before .loop .inv .2) ∙ sets-more (now (c .before .before .before .args .out)) (c .before .before .before .args .at) (now (c .before .before .before .args .word)) (c .before .before .loop .j) 0 (search needs))
-
-add-result : tie.Need-add-result Inv-loop μ-loop
-add-result c = search needs
-
-same-length : tie.Need-same-length Inv-loop μ-loop
-same-length c = search needs
 
 returns : tie.Need-returns Inv-loop μ-loop
 returns c = record { next = search needs; left = c .before .loop .inv .2 ∙ ap (λ (l : List ℕ). sets (now (c .before .before .args .out)) (c .before .before .args .at) l) (take-all (c .before .loop .j) (now (c .before .before .args .word)) (search needs)) }
@@ -52,12 +31,12 @@ put-word-spec =
     Inv-loop
     μ-loop
     loop-holds
-    shared-slice-read-out
-    add-out
-    slice-write-out
-    add-j
-    loop-less
+    (λ c. search needs)
+    (λ c. search needs)
+    (λ c. search needs)
+    (λ c. search needs)
+    (λ c. search needs)
     loop-again
-    add-result
-    same-length
+    (λ c. search needs)
+    (λ c. search needs)
     returns)

@@ -3,11 +3,8 @@ use borrow.Author.Needs.{needs}
 use Rattle.trail.proofs.background_entry.Statement.{statement}
 use Rattle.trail.proofs.background_entry.Tie as tie
 
-blank-entry-requires : tie.Need-blank-entry-requires
-blank-entry-requires c κs = search needs
-
 returns : tie.Need-returns
 returns c = record { is = rw (c .blank-entry .ensures); short = tt }
 
 pub background-entry-spec : {M : Type 1} → statement M
-background-entry-spec = tie.close (tie.spec blank-entry-requires returns)
+background-entry-spec = tie.close (tie.spec (λ c κs. search needs) returns)

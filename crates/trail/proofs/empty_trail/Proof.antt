@@ -8,12 +8,9 @@ use Rattle.trail.specs.Entries.{blankEntry, packedTrail}
 use Rattle.trail.proofs.empty_trail.Statement.{statement}
 use Rattle.trail.proofs.empty_trail.Tie as tie
 
-blank-entry-requires : tie.Need-blank-entry-requires
-blank-entry-requires c κs = search needs
-
 returns : tie.Need-returns
 unfolding packedTrail
 returns c = ap (replicate mostEntries) (c .blank-entry .ensures) ∙ sym (exactly-none blankEntry mostEntries)
 
 pub empty-trail-spec : {M : Type 1} → statement M
-empty-trail-spec = tie.close (tie.spec blank-entry-requires returns)
+empty-trail-spec = tie.close (tie.spec (λ c κs. search needs) returns)

@@ -28,29 +28,8 @@ Inv-literals len instance count others own trail clause n m j₀ j =
 abbrev μ-literals : tie.MeasureT-literals
 μ-literals len instance count others own trail clause n m j₀ j = m - j
 
-literals-of-requires : tie.Need-literals-of-requires Inv-entries μ-entries Inv-literals μ-literals
-literals-of-requires c κs = search needs
-
 literals-holds : tie.Need-literals-holds Inv-entries μ-entries Inv-literals μ-literals
 literals-holds c = (omega arith, refl)
-
-mul-l : tie.Need-mul-l Inv-entries μ-entries Inv-literals μ-literals
-mul-l c = search needs
-
-element-copy-out-l : tie.Need-element-copy-out-l Inv-entries μ-entries Inv-literals μ-literals
-element-copy-out-l c = search needs
-
-ground-requires : tie.Need-ground-requires Inv-entries μ-entries Inv-literals μ-literals
-ground-requires c κs = search needs
-
-is-own-requires : tie.Need-is-own-requires Inv-entries μ-entries Inv-literals μ-literals
-is-own-requires c κs = search needs
-
-add-j : tie.Need-add-j Inv-entries μ-entries Inv-literals μ-literals
-add-j c = search needs
-
-literals-less : tie.Need-literals-less Inv-entries μ-entries Inv-literals μ-literals
-literals-less c = search needs
 
 literals-again : tie.Need-literals-again Inv-entries μ-entries Inv-literals μ-literals
 literals-again c =
@@ -62,26 +41,8 @@ literals-again c =
           (c .before .before .ground .ensures) (c .before .is-own .ensures) (c .if1 .taken),
     )
 
-complement-requires : tie.Need-complement-requires Inv-entries μ-entries Inv-literals μ-literals
-complement-requires c κs = search needs
-
 entries-holds : tie.Need-entries-holds Inv-entries μ-entries Inv-literals μ-literals
 entries-holds c = (refl, omega arith, refl)
-
-mul-e : tie.Need-mul-e Inv-entries μ-entries Inv-literals μ-literals
-mul-e c = search needs
-
-array-copy-out-e : tie.Need-array-copy-out-e Inv-entries μ-entries Inv-literals μ-literals
-array-copy-out-e c = search needs
-
-is-literal-requires : tie.Need-is-literal-requires Inv-entries μ-entries Inv-literals μ-literals
-is-literal-requires c κs = search needs
-
-add-j-2 : tie.Need-add-j-2 Inv-entries μ-entries Inv-literals μ-literals
-add-j-2 c = search needs
-
-literals-less-2 : tie.Need-literals-less-2 Inv-entries μ-entries Inv-literals μ-literals
-literals-less-2 c = search needs
 
 literals-again-2 : tie.Need-literals-again-2 Inv-entries μ-entries Inv-literals μ-literals
 literals-again-2 c =
@@ -101,12 +62,6 @@ literals-again-2 c =
           (c .before .before .before .before .before .before .before .is-own .ensures) (complement .ensures) found,
     )
 
-add-k : tie.Need-add-k Inv-entries μ-entries Inv-literals μ-literals
-add-k c = search needs
-
-entries-less : tie.Need-entries-less Inv-entries μ-entries Inv-literals μ-literals
-entries-less c = search needs
-
 entries-again : tie.Need-entries-again Inv-entries μ-entries Inv-literals μ-literals
 entries-again c =
     let entries = c .before .before .before .before .entries in (
@@ -116,12 +71,6 @@ entries-again c =
           (c .before .before .before .before .before .before .before .before .before .before .before .before .before .args .t1) (entries .k) (entries .inv .2)
           (sym (c .before .is-literal .ensures) ∙ c .if2 .left),
     )
-
-add-result : tie.Need-add-result Inv-entries μ-entries Inv-literals μ-literals
-add-result c = search needs
-
-cast-result : tie.Need-cast-result Inv-entries μ-entries Inv-literals μ-literals
-cast-result c = search needs
 
 returns : tie.Need-returns Inv-entries μ-entries Inv-literals μ-literals
 returns c =
@@ -155,27 +104,27 @@ first-not-false-spec =
     μ-entries
     Inv-literals
     μ-literals
-    literals-of-requires
+    (λ c κs. search needs)
     literals-holds
-    mul-l
-    element-copy-out-l
-    ground-requires
-    is-own-requires
-    add-j
-    literals-less
+    (λ c. search needs)
+    (λ c. search needs)
+    (λ c κs. search needs)
+    (λ c κs. search needs)
+    (λ c. search needs)
+    (λ c. search needs)
     literals-again
-    complement-requires
+    (λ c κs. search needs)
     entries-holds
-    mul-e
-    array-copy-out-e
-    is-literal-requires
-    add-j-2
-    literals-less-2
+    (λ c. search needs)
+    (λ c. search needs)
+    (λ c κs. search needs)
+    (λ c. search needs)
+    (λ c. search needs)
     literals-again-2
-    add-k
-    entries-less
+    (λ c. search needs)
+    (λ c. search needs)
     entries-again
-    add-result
-    cast-result
+    (λ c. search needs)
+    (λ c. search needs)
     returns
     returns-2)

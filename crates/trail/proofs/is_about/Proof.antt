@@ -4,17 +4,8 @@ use borrow.Author.Needs.{needs}
 use Rattle.trail.proofs.is_about.Statement.{statement}
 use Rattle.trail.proofs.is_about.Tie as tie
 
-is-literal-requires : tie.Need-is-literal-requires
-is-literal-requires c κs = search needs
-
 returns : tie.Need-returns
 returns c = rw (sym (c .before .is-literal .ensures) ∙ c .if1 .taken)
-
-complement-requires : tie.Need-complement-requires
-complement-requires c κs = search needs
-
-is-literal-requires-2 : tie.Need-is-literal-requires-2
-is-literal-requires-2 c κs = search needs
 
 returns-2 : tie.Need-returns-2
 returns-2 c = rw (sym (c .before .before .before .is-literal .ensures) ∙ c .before .before .if1 .left) (cc)
@@ -22,4 +13,4 @@ returns-2 c = rw (sym (c .before .before .before .is-literal .ensures) ∙ c .be
 pub is-about-spec : {M : Type 1} → statement M
 is-about-spec =
     tie.close
-    (tie.spec is-literal-requires returns complement-requires is-literal-requires-2 returns-2)
+    (tie.spec (λ c κs. search needs) returns (λ c κs. search needs) (λ c κs. search needs) returns-2)

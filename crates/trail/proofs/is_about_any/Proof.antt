@@ -19,20 +19,8 @@ Inv-loop e d n j₀ j = (j ≤ n) × (anyOf (λ l. isAbout l (entryOf e)) (take 
 abbrev μ-loop : tie.MeasureT-loop
 μ-loop e d n j₀ j = n - j
 
-instances-of-requires : tie.Need-instances-of-requires Inv-loop μ-loop
-instances-of-requires c κs = search needs
-
 loop-holds : tie.Need-loop-holds Inv-loop μ-loop
 loop-holds c = (omega arith, refl)
-
-mul-l : tie.Need-mul-l Inv-loop μ-loop
-mul-l c = search needs
-
-element-copy-out-l : tie.Need-element-copy-out-l Inv-loop μ-loop
-element-copy-out-l c = search needs
-
-is-about-requires : tie.Need-is-about-requires Inv-loop μ-loop
-is-about-requires c κs = search needs
 
 returns : tie.Need-returns Inv-loop μ-loop
 returns c =
@@ -42,12 +30,6 @@ returns c =
     (ap (anyOf (λ l. isAbout l (entryOf (args .e)))) (sym (instances-of .ensures .same))
     ∙ anyOf-found (λ l. isAbout l (entryOf (args .e))) (args .t2 .at) (c .before .before .before .before .loop .j) (instances-of .result) noLiteral (omega arith)
     (omega (arith, instances-of .ensures .long, instances-of .ensures .few)) (sym (c .before .is-about .ensures) ∙ c .if1 .taken))
-
-add-j : tie.Need-add-j Inv-loop μ-loop
-add-j c = search needs
-
-loop-less : tie.Need-loop-less Inv-loop μ-loop
-loop-less c = search needs
 
 loop-again : tie.Need-loop-again Inv-loop μ-loop
 loop-again c =
@@ -72,13 +54,13 @@ is-about-any-spec =
     (tie.spec
     Inv-loop
     μ-loop
-    instances-of-requires
+    (λ c κs. search needs)
     loop-holds
-    mul-l
-    element-copy-out-l
-    is-about-requires
+    (λ c. search needs)
+    (λ c. search needs)
+    (λ c κs. search needs)
     returns
-    add-j
-    loop-less
+    (λ c. search needs)
+    (λ c. search needs)
     loop-again
     returns-2)

@@ -23,49 +23,13 @@ Inv-loop len l trail g d decisions₀ own₀ others₀ kept₀ k₀ ds own other
 abbrev μ-loop : tie.MeasureT-loop
 μ-loop len l trail g d decisions₀ own₀ others₀ kept₀ k₀ ds own others kept k = len - k
 
-conflict-instance-requires : tie.Need-conflict-instance-requires Inv-loop μ-loop
-conflict-instance-requires c κs = search needs
-
-other-instances-requires : tie.Need-other-instances-requires Inv-loop μ-loop
-other-instances-requires c κs = search needs
-
 loop-holds : tie.Need-loop-holds Inv-loop μ-loop
 loop-holds c =
     let d = c .other-instances .result in
     (omega arith, search needs, refl, refl, omega (arith, level-most [] (take (d .count) (d .at))), refl)
 
-cast-e : tie.Need-cast-e Inv-loop μ-loop
-cast-e c = search needs
-
-mul-e : tie.Need-mul-e Inv-loop μ-loop
-mul-e c = search needs
-
-array-copy-out-e : tie.Need-array-copy-out-e Inv-loop μ-loop
-array-copy-out-e c = search needs
-
 decisions-with-requires : tie.Need-decisions-with-requires Inv-loop μ-loop
 decisions-with-requires c κs = omega (arith, decisions-most (c .before .before .before .before .before .args .t1) (c .before .before .loop .k))
-
-is-about-requires : tie.Need-is-about-requires Inv-loop μ-loop
-is-about-requires c κs = search needs
-
-either-requires : tie.Need-either-requires Inv-loop μ-loop
-either-requires c κs = search needs
-
-is-about-any-requires : tie.Need-is-about-any-requires Inv-loop μ-loop
-is-about-any-requires c κs = search needs
-
-either-requires-2 : tie.Need-either-requires-2 Inv-loop μ-loop
-either-requires-2 c κs = search needs
-
-add-k : tie.Need-add-k Inv-loop μ-loop
-add-k c = search needs
-
-either-requires-3 : tie.Need-either-requires-3 Inv-loop μ-loop
-either-requires-3 c κs = search needs
-
-loop-less : tie.Need-loop-less Inv-loop μ-loop
-loop-less c = search needs
 
 loop-again : tie.Need-loop-again Inv-loop μ-loop
 loop-again c =
@@ -99,19 +63,19 @@ levels-spec =
     (tie.spec
     Inv-loop
     μ-loop
-    conflict-instance-requires
-    other-instances-requires
+    (λ c κs. search needs)
+    (λ c κs. search needs)
     loop-holds
-    cast-e
-    mul-e
-    array-copy-out-e
+    (λ c. search needs)
+    (λ c. search needs)
+    (λ c. search needs)
     decisions-with-requires
-    is-about-requires
-    either-requires
-    is-about-any-requires
-    either-requires-2
-    add-k
-    either-requires-3
-    loop-less
+    (λ c κs. search needs)
+    (λ c κs. search needs)
+    (λ c κs. search needs)
+    (λ c κs. search needs)
+    (λ c. search needs)
+    (λ c κs. search needs)
+    (λ c. search needs)
     loop-again
     returns)

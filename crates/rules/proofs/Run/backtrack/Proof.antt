@@ -68,13 +68,7 @@ cast-kept : tie.Need-cast-kept Inv-loop μ-loop Inv-loop2 μ-loop2
 cast-kept c = omega (arith, kept-small (c .before .before .before .before .before .before .before .before .pre) .few-entries, kept-below (c .before .before .before .before .before .before .before .before .args .t1) (c .before .before .before .before .before .before .before .before .args .l) (c .before .before .before .levels .ensures))
 
 -- src/lib.rt:652:17
-literal-exists-requires : tie.Need-literal-exists-requires Inv-loop μ-loop Inv-loop2 μ-loop2
-literal-exists-requires c κs = search needs
-
 -- src/lib.rt:655:22
-again-requires : tie.Need-again-requires Inv-loop μ-loop Inv-loop2 μ-loop2
-again-requires c κs = search needs
-
 -- src/lib.rt:661:29
 possible-requires : tie.Need-possible-requires Inv-loop μ-loop Inv-loop2 μ-loop2
 possible-requires c κs = in-room (c .before .before .before .before .before .gathered .ensures) .few
@@ -88,37 +82,13 @@ cast-refusal : tie.Need-cast-refusal Inv-loop μ-loop Inv-loop2 μ-loop2
 cast-refusal c = omega (arith, kept-small (c .before .before .before .before .before .before .before .before .before .before .before .before .pre) .few-learned)
 
 -- src/lib.rt:666:33
-refusal-requires : tie.Need-refusal-requires Inv-loop μ-loop Inv-loop2 μ-loop2
-refusal-requires c κs = search needs
-
 -- src/lib.rt:663:29
-refusal-requires-2 : tie.Need-refusal-requires-2 Inv-loop μ-loop Inv-loop2 μ-loop2
-refusal-requires-2 c κs = search needs
-
 -- src/lib.rt:660:25
-refusal-requires-3 : tie.Need-refusal-requires-3 Inv-loop μ-loop Inv-loop2 μ-loop2
-refusal-requires-3 c κs = search needs
-
 -- src/lib.rt:657:21
-refusal-requires-4 : tie.Need-refusal-requires-4 Inv-loop μ-loop Inv-loop2 μ-loop2
-refusal-requires-4 c κs = search needs
-
 -- src/lib.rt:654:17
-refusal-requires-5 : tie.Need-refusal-requires-5 Inv-loop μ-loop Inv-loop2 μ-loop2
-refusal-requires-5 c κs = search needs
-
 -- src/lib.rt:651:13
-refusal-requires-6 : tie.Need-refusal-requires-6 Inv-loop μ-loop Inv-loop2 μ-loop2
-refusal-requires-6 c κs = search needs
-
 -- src/lib.rt:648:13
-refusal-requires-7 : tie.Need-refusal-requires-7 Inv-loop μ-loop Inv-loop2 μ-loop2
-refusal-requires-7 c κs = search needs
-
 -- src/lib.rt:674:13
-refused-requires : tie.Need-refused-requires Inv-loop μ-loop Inv-loop2 μ-loop2
-refused-requires c κs = search needs
-
 -- src/lib.rt:674:13
 returns : tie.Need-returns Inv-loop μ-loop Inv-loop2 μ-loop2
 returns c =
@@ -148,13 +118,7 @@ add-own-2 : tie.Need-add-own-2 Inv-loop μ-loop Inv-loop2 μ-loop2
 add-own-2 c = omega (arith, kept-small (c .before .before .before .before .before .before .before .before .before .before .before .before .before .before .before .before .before .before .before .before .pre) .few-input, kept-small (c .before .before .before .before .before .before .before .before .before .before .before .before .before .before .before .before .before .before .before .before .pre) .few-learned)
 
 -- src/lib.rt:677:13
-conflict-instance-requires : tie.Need-conflict-instance-requires Inv-loop μ-loop Inv-loop2 μ-loop2
-conflict-instance-requires c κs = search needs
-
 -- src/lib.rt:678:13
-blank-entry-requires : tie.Need-blank-entry-requires Inv-loop μ-loop Inv-loop2 μ-loop2
-blank-entry-requires c κs = search needs
-
 -- src/lib.rt:679:21
 cast-k : tie.Need-cast-k Inv-loop μ-loop Inv-loop2 μ-loop2
 cast-k c = omega (arith, kept-small (c .before .before .before .before .before .before .before .before .before .before .before .before .before .before .before .before .before .before .before .before .before .before .pre) .few-entries)
@@ -168,25 +132,16 @@ sub-k : tie.Need-sub-k Inv-loop μ-loop Inv-loop2 μ-loop2
 sub-k c = omega (arith, c .loop-test .taken)
 
 -- src/lib.rt:682:13
-mul-blank : tie.Need-mul-blank Inv-loop μ-loop Inv-loop2 μ-loop2
-mul-blank c = search needs
-
 -- src/lib.rt:682:13
 element-set-from-blank : tie.Need-element-set-from-blank Inv-loop μ-loop Inv-loop2 μ-loop2
 element-set-from-blank c = omega (arith, c .before .loop .inv .stores .few, c .loop-test .taken)
 
 -- src/lib.rt:680:9
-loop-less : tie.Need-loop-less Inv-loop μ-loop Inv-loop2 μ-loop2
-loop-less c = search needs
-
 -- src/lib.rt:680:9
 loop-again : tie.Need-loop-again Inv-loop μ-loop Inv-loop2 μ-loop2
 loop-again c = cuts-turn (c .before .loop .inv) (c .loop-test .taken) (omega (arith, c .loop-test .taken)) (c .before .before .blank-entry .ensures)
 
 -- src/lib.rt:684:28
-propagated-entry-requires : tie.Need-propagated-entry-requires Inv-loop μ-loop Inv-loop2 μ-loop2
-propagated-entry-requires c κs = search needs
-
 -- src/lib.rt:684:9
 mul-t38 : tie.Need-mul-t38 Inv-loop μ-loop Inv-loop2 μ-loop2
 mul-t38 c = omega (arith, kept-small (c .before .before .before .before .before .before .before .before .before .before .before .before .before .before .before .before .before .before .before .before .before .before .before .before .before .pre) .few-entries, kept-below (c .before .before .before .before .before .before .before .before .before .before .before .before .before .before .before .before .before .before .before .before .before .before .before .before .before .args .t1) (c .before .before .before .before .before .before .before .before .before .before .before .before .before .before .before .before .before .before .before .before .before .before .before .before .before .args .l) (c .before .before .before .before .before .before .before .before .before .before .before .before .before .before .before .before .before .before .before .before .levels .ensures))
@@ -212,9 +167,6 @@ add-j : tie.Need-add-j Inv-loop μ-loop Inv-loop2 μ-loop2
 add-j c = omega (arith, few-new (c .before .before .before .before .before .before .before .before .before .before .before .before .before .before .before .before .before .before .before .before .before .before .gathered .ensures) (c .before .before .before .before .before .before .before .before .before .before .before .before .before .before .before .before .before .before .before .before .before .new-atoms .ensures), c .before .loop2-test .taken)
 
 -- src/lib.rt:689:36
-background-entry-requires : tie.Need-background-entry-requires Inv-loop μ-loop Inv-loop2 μ-loop2
-background-entry-requires c κs = search needs
-
 -- src/lib.rt:689:24
 add-t49 : tie.Need-add-t49 Inv-loop μ-loop Inv-loop2 μ-loop2
 add-t49 c = omega (arith, room (c .before .before .before .before .before .before .before .before .before .before) (c .before .before .before .before .before .before .before .before .before .if1 .left) .0, c .before .before .loop2-test .taken)
@@ -228,17 +180,11 @@ element-set-from-self-2 : tie.Need-element-set-from-self-2 Inv-loop μ-loop Inv-
 element-set-from-self-2 c = omega (arith, room (c .before .before .before .before .before .before .before .before .before .before) (c .before .before .before .before .before .before .before .before .before .if1 .left) .0, c .before .before .loop2-test .taken)
 
 -- src/lib.rt:686:9
-loop2-less : tie.Need-loop2-less Inv-loop μ-loop Inv-loop2 μ-loop2
-loop2-less c = search needs
-
 -- src/lib.rt:686:9
 loop2-again : tie.Need-loop2-again Inv-loop μ-loop Inv-loop2 μ-loop2
 loop2-again c = grows-turn (c .before .before .before .loop2 .inv) (c .before .before .loop2-test .taken) (few-new (c .before .before .before .before .before .before .before .before .before .before .before .before .before .before .before .before .before .before .before .before .before .before .before .gathered .ensures) (c .before .before .before .before .before .before .before .before .before .before .before .before .before .before .before .before .before .before .before .before .before .before .new-atoms .ensures)) (room (c .before .before .before .before .before .before .before .before .before .before) (c .before .before .before .before .before .before .before .before .before .if1 .left) .0) (omega arith) (c .background-entry .ensures)
 
 -- src/lib.rt:691:13
-no-instanced-requires : tie.Need-no-instanced-requires Inv-loop μ-loop Inv-loop2 μ-loop2
-no-instanced-requires c κs = search needs
-
 -- src/lib.rt:692:24
 add-self : tie.Need-add-self Inv-loop μ-loop Inv-loop2 μ-loop2
 add-self c = omega (arith, room (c .before .before .before .before .before .before .before .before .before) (c .before .before .before .before .before .before .before .before .if1 .left) .0)
@@ -296,45 +242,45 @@ backtrack-spec =
     new-atoms-requires
     cast-m
     cast-kept
-    literal-exists-requires
-    again-requires
+    (λ c κs. search needs)
+    (λ c κs. search needs)
     possible-requires
     add-refusal
     cast-refusal
-    refusal-requires
-    refusal-requires-2
-    refusal-requires-3
-    refusal-requires-4
-    refusal-requires-5
-    refusal-requires-6
-    refusal-requires-7
-    refused-requires
+    (λ c κs. search needs)
+    (λ c κs. search needs)
+    (λ c κs. search needs)
+    (λ c κs. search needs)
+    (λ c κs. search needs)
+    (λ c κs. search needs)
+    (λ c κs. search needs)
+    (λ c κs. search needs)
     returns
     add-own
     add-own-2
-    conflict-instance-requires
-    blank-entry-requires
+    (λ c κs. search needs)
+    (λ c κs. search needs)
     cast-k
     loop-holds
     sub-k
-    mul-blank
+    (λ c. search needs)
     element-set-from-blank
-    loop-less
+    (λ c. search needs)
     loop-again
-    propagated-entry-requires
+    (λ c κs. search needs)
     mul-t38
     element-set-from-self
     loop2-holds
     mul-a
     element-copy-out-a
     add-j
-    background-entry-requires
+    (λ c κs. search needs)
     add-t49
     mul-t54
     element-set-from-self-2
-    loop2-less
+    (λ c. search needs)
     loop2-again
-    no-instanced-requires
+    (λ c κs. search needs)
     add-self
     add-self-2
     cast-self

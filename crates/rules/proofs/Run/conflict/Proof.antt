@@ -20,9 +20,6 @@ instance-named-requires : tie.Need-instance-named-requires
 instance-named-requires c κs = let h = kept-small (c .before .pre .0, c .before .pre .1) in (h .few-input, h .few-learned)
 
 -- src/lib.rt:492:13
-no-literal-requires : tie.Need-no-literal-requires
-no-literal-requires c κs = search needs
-
 -- src/lib.rt:493:13
 first-not-false-requires : tie.Need-first-not-false-requires
 first-not-false-requires c κs = kept-small (c .before .before .before .before .pre .0, c .before .before .before .before .pre .1) .few-entries
@@ -36,29 +33,11 @@ possible-requires : tie.Need-possible-requires
 possible-requires c κs = in-room (c .gathered .ensures) .few
 
 -- src/lib.rt:505:52
-refusal-requires : tie.Need-refusal-requires
-refusal-requires c κs = search needs
-
 -- src/lib.rt:505:21
-refusal-requires-2 : tie.Need-refusal-requires-2
-refusal-requires-2 c κs = search needs
-
 -- src/lib.rt:502:17
-refusal-requires-3 : tie.Need-refusal-requires-3
-refusal-requires-3 c κs = search needs
-
 -- src/lib.rt:499:13
-refusal-requires-4 : tie.Need-refusal-requires-4
-refusal-requires-4 c κs = search needs
-
 -- src/lib.rt:496:13
-refusal-requires-5 : tie.Need-refusal-requires-5
-refusal-requires-5 c κs = search needs
-
 -- src/lib.rt:510:13
-refused-at-requires : tie.Need-refused-at-requires
-refused-at-requires c κs = search needs
-
 -- src/lib.rt:510:13
 returns : tie.Need-returns
 returns c =
@@ -78,9 +57,6 @@ returns c =
     (at-refusal .refusal .ensures) (at-refusal2 .refusal2 .ensures) (at-refusal3 .refusal3 .ensures) (at-refusal4 .refusal4 .ensures) (at-refusal5 .refusal5 .ensures) (at-if1 .if1 .taken))
 
 -- src/lib.rt:512:13
-first-constants-requires : tie.Need-first-constants-requires
-first-constants-requires c κs = search needs
-
 -- src/lib.rt:477:5
 returns-2 : tie.Need-returns-2
 returns-2 c =
@@ -104,16 +80,16 @@ conflict-spec =
     tie.close
     (tie.spec
     instance-named-requires
-    no-literal-requires
+    (λ c κs. search needs)
     first-not-false-requires
     gathered-requires
     possible-requires
-    refusal-requires
-    refusal-requires-2
-    refusal-requires-3
-    refusal-requires-4
-    refusal-requires-5
-    refused-at-requires
+    (λ c κs. search needs)
+    (λ c κs. search needs)
+    (λ c κs. search needs)
+    (λ c κs. search needs)
+    (λ c κs. search needs)
+    (λ c κs. search needs)
     returns
-    first-constants-requires
+    (λ c κs. search needs)
     returns-2)

@@ -28,9 +28,6 @@ literal-named-requires : tie.Need-literal-named-requires
 literal-named-requires c κs = let h = kept-small (c .before .pre .0, c .before .pre .1) in (h .few-input, h .few-learned)
 
 -- src/lib.rt:440:13
-decided-literal-requires : tie.Need-decided-literal-requires
-decided-literal-requires c κs = search needs
-
 -- src/lib.rt:442:13
 undefined-requires : tie.Need-undefined-requires
 undefined-requires c κs = kept-small (c .before .before .before .before .pre .0, c .before .before .before .before .pre .1) .few-entries
@@ -40,42 +37,18 @@ cast-m : tie.Need-cast-m
 cast-m c = omega (arith, kept-small (c .before .before .before .before .before .pre .0, c .before .before .before .before .before .pre .1) .few-entries)
 
 -- src/lib.rt:456:56
-refusal-requires : tie.Need-refusal-requires
-refusal-requires c κs = search needs
-
 -- src/lib.rt:456:25
-refusal-requires-2 : tie.Need-refusal-requires-2
-refusal-requires-2 c κs = search needs
-
 -- src/lib.rt:453:21
-refusal-requires-3 : tie.Need-refusal-requires-3
-refusal-requires-3 c κs = search needs
-
 -- src/lib.rt:450:17
-refusal-requires-4 : tie.Need-refusal-requires-4
-refusal-requires-4 c κs = search needs
-
 -- src/lib.rt:447:13
-refusal-requires-5 : tie.Need-refusal-requires-5
-refusal-requires-5 c κs = search needs
-
 -- src/lib.rt:444:13
-refusal-requires-6 : tie.Need-refusal-requires-6
-refusal-requires-6 c κs = search needs
-
 -- src/lib.rt:462:13
-refused-requires : tie.Need-refused-requires
-refused-requires c κs = search needs
-
 -- src/lib.rt:462:13
 returns : tie.Need-returns
 returns c = rw (c .refused .ensures) (λ s R looks. decide-refused R (c .before .before .before .before .before .before .before .before .before .before .before .before .before .args .looked) _ _ _ _ (c .before .before .before .before .before .before .before .before .before .before .before .before .before .args .instance) (let g = c .before .before .before .before .before .before .before .before .before .before .before .before .before .good .1 .1 .1 .1 .1 .0 in search needs) looks _ (c .before .before .before .before .before .before .before .before .before .before .decided-literal .ensures) _ _ (c .before .before .before .before .before .before .before .before .before .before .before .literal-named .ensures) (c .before .before .before .before .before .before .before .before .undefined .ensures)
     (c .before .before .before .before .before .before .before .refusal .ensures) (c .before .before .before .before .before .before .refusal2 .ensures) (c .before .before .before .before .before .refusal3 .ensures) (c .before .before .before .before .refusal4 .ensures) (c .before .before .before .refusal5 .ensures) (c .before .before .refusal6 .ensures) (c .before .if1 .taken))
 
 -- src/lib.rt:464:25
-decided-entry-requires : tie.Need-decided-entry-requires
-decided-entry-requires c κs = search needs
-
 -- src/lib.rt:464:9
 mul-t20 : tie.Need-mul-t20
 mul-t20 c = omega (arith, kept-small (c .before .before .before .before .before .before .before .before .before .before .before .before .before .pre .0, c .before .before .before .before .before .before .before .before .before .before .before .before .before .pre .1) .few-entries)
@@ -102,18 +75,18 @@ decide-spec =
     tie.close
     (tie.spec
     literal-named-requires
-    decided-literal-requires
+    (λ c κs. search needs)
     undefined-requires
     cast-m
-    refusal-requires
-    refusal-requires-2
-    refusal-requires-3
-    refusal-requires-4
-    refusal-requires-5
-    refusal-requires-6
-    refused-requires
+    (λ c κs. search needs)
+    (λ c κs. search needs)
+    (λ c κs. search needs)
+    (λ c κs. search needs)
+    (λ c κs. search needs)
+    (λ c κs. search needs)
+    (λ c κs. search needs)
     returns
-    decided-entry-requires
+    (λ c κs. search needs)
     mul-t20
     element-set-from-self
     add-self

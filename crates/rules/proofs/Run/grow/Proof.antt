@@ -10,37 +10,16 @@ use Rattle.rules.proofs.refused.Reads as refused-reads
 use Rattle.trail.proofs.empty_trail.Reads as empty-trail-reads
 
 -- src/lib.rt:710:25
-cast-constants : tie.Need-cast-constants
-cast-constants c = search needs
-
 -- src/lib.rt:710:25
-add-constants : tie.Need-add-constants
-add-constants c = search needs
-
 -- src/lib.rt:717:17
-refusal-requires : tie.Need-refusal-requires
-refusal-requires c κs = search needs
-
 -- src/lib.rt:714:13
-refusal-requires-2 : tie.Need-refusal-requires-2
-refusal-requires-2 c κs = search needs
-
 -- src/lib.rt:711:13
-refusal-requires-3 : tie.Need-refusal-requires-3
-refusal-requires-3 c κs = search needs
-
 -- src/lib.rt:721:13
-refused-requires : tie.Need-refused-requires
-refused-requires c κs = search needs
-
 -- src/lib.rt:721:13
 returns : tie.Need-returns
 returns c = rw (c .refused .ensures) (λ s R. grow-refused R _ (c .before .before .before .before .refusal .ensures) (c .before .before .before .refusal2 .ensures) (c .before .before .refusal3 .ensures) (c .before .if1 .taken))
 
 -- src/lib.rt:723:13
-empty-trail-requires : tie.Need-empty-trail-requires
-empty-trail-requires c κs = search needs
-
 -- src/lib.rt:724:26
 cast-self : tie.Need-cast-self
 cast-self c = let h = grow-passed (c .before .before .before .before .before .before .before .pre .1) _ (c .before .before .before .before .refusal .ensures) (c .before .before .before .refusal2 .ensures) (c .before .before .refusal3 .ensures) (c .before .if1 .left) in omega (arith, h .2)
@@ -53,13 +32,13 @@ pub grow-spec : {M : Type 1} → statement M
 grow-spec =
     tie.close
     (tie.spec
-    cast-constants
-    add-constants
-    refusal-requires
-    refusal-requires-2
-    refusal-requires-3
-    refused-requires
+    (λ c. search needs)
+    (λ c. search needs)
+    (λ c κs. search needs)
+    (λ c κs. search needs)
+    (λ c κs. search needs)
+    (λ c κs. search needs)
     returns
-    empty-trail-requires
+    (λ c κs. search needs)
     cast-self
     returns-2)

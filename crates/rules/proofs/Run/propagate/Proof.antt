@@ -42,9 +42,6 @@ literal-named-requires : tie.Need-literal-named-requires Inv-loop μ-loop
 literal-named-requires c κs = let h = kept-small (c .before .pre .0, c .before .pre .1) in (h .few-input, h .few-learned)
 
 -- src/lib.rt:362:13
-literal-instance-requires : tie.Need-literal-instance-requires Inv-loop μ-loop
-literal-instance-requires c κs = search needs
-
 -- src/lib.rt:364:17
 cast-m : tie.Need-cast-m Inv-loop μ-loop
 cast-m c = omega (arith, kept-small (c .before .before .before .before .before .pre .0, c .before .before .before .before .before .pre .1) .few-entries)
@@ -74,37 +71,13 @@ add-refusal : tie.Need-add-refusal Inv-loop μ-loop
 add-refusal c = omega (arith, kept-small (c .before .before .before .before .before .before .before .before .before .before .before .pre .0, c .before .before .before .before .before .before .before .before .before .before .before .pre .1) .few-entries, few-new (c .before .before .before .before .gathered .ensures) (c .before .before .new-atoms .ensures))
 
 -- src/lib.rt:388:33
-refusal-requires : tie.Need-refusal-requires Inv-loop μ-loop
-refusal-requires c κs = search needs
-
 -- src/lib.rt:385:29
-refusal-requires-2 : tie.Need-refusal-requires-2 Inv-loop μ-loop
-refusal-requires-2 c κs = search needs
-
 -- src/lib.rt:382:25
-refusal-requires-3 : tie.Need-refusal-requires-3 Inv-loop μ-loop
-refusal-requires-3 c κs = search needs
-
 -- src/lib.rt:379:21
-refusal-requires-4 : tie.Need-refusal-requires-4 Inv-loop μ-loop
-refusal-requires-4 c κs = search needs
-
 -- src/lib.rt:376:17
-refusal-requires-5 : tie.Need-refusal-requires-5 Inv-loop μ-loop
-refusal-requires-5 c κs = search needs
-
 -- src/lib.rt:373:13
-refusal-requires-6 : tie.Need-refusal-requires-6 Inv-loop μ-loop
-refusal-requires-6 c κs = search needs
-
 -- src/lib.rt:370:13
-refusal-requires-7 : tie.Need-refusal-requires-7 Inv-loop μ-loop
-refusal-requires-7 c κs = search needs
-
 -- src/lib.rt:396:13
-refused-at-requires : tie.Need-refused-at-requires Inv-loop μ-loop
-refused-at-requires c κs = search needs
-
 -- src/lib.rt:396:13
 returns : tie.Need-returns Inv-loop μ-loop
 returns c =
@@ -127,9 +100,6 @@ returns c =
     (at-refusal .refusal .ensures) (at-refusal2 .refusal2 .ensures) (at-refusal3 .refusal3 .ensures) (at-refusal4 .refusal4 .ensures) (at-refusal5 .refusal5 .ensures) (at-refusal6 .refusal6 .ensures) (at-refusal7 .refusal7 .ensures) (at-if1 .if1 .taken))
 
 -- src/lib.rt:399:25
-propagated-entry-requires : tie.Need-propagated-entry-requires Inv-loop μ-loop
-propagated-entry-requires c κs = search needs
-
 -- src/lib.rt:399:9
 mul-t23 : tie.Need-mul-t23 Inv-loop μ-loop
 mul-t23 c = omega (arith, kept-small (c .before .before .before .before .before .before .before .before .before .before .before .before .before .before .before .before .before .before .before .before .pre .0, c .before .before .before .before .before .before .before .before .before .before .before .before .before .before .before .before .before .before .before .before .pre .1) .few-entries)
@@ -155,9 +125,6 @@ add-j : tie.Need-add-j Inv-loop μ-loop
 add-j c = omega (arith, few-new (c .before .before .before .before .before .before .before .before .before .before .before .before .before .before .before .before .gathered .ensures) (c .before .before .before .before .before .before .before .before .before .before .before .before .before .before .new-atoms .ensures), c .before .loop-test .taken)
 
 -- src/lib.rt:404:33
-background-entry-requires : tie.Need-background-entry-requires Inv-loop μ-loop
-background-entry-requires c κs = search needs
-
 -- src/lib.rt:404:24
 add-t38 : tie.Need-add-t38 Inv-loop μ-loop
 add-t38 c = omega (arith, kept-small (c .before .before .before .before .before .before .before .before .before .before .before .before .before .before .before .before .before .before .before .before .before .before .before .before .pre .0, c .before .before .before .before .before .before .before .before .before .before .before .before .before .before .before .before .before .before .before .before .before .before .before .before .pre .1) .few-entries, few-new (c .before .before .before .before .before .before .before .before .before .before .before .before .before .before .before .before .before .gathered .ensures) (c .before .before .before .before .before .before .before .before .before .before .before .before .before .before .before .new-atoms .ensures), c .before .before .loop-test .taken)
@@ -171,9 +138,6 @@ element-set-from-next-2 : tie.Need-element-set-from-next-2 Inv-loop μ-loop
 element-set-from-next-2 c = omega (arith, room (c .before .before .before .before .before .before) (c .before .before .before .before .before .if1 .left), c .before .before .loop-test .taken)
 
 -- src/lib.rt:401:9
-loop-less : tie.Need-loop-less Inv-loop μ-loop
-loop-less c = search needs
-
 -- src/lib.rt:401:9
 loop-again : tie.Need-loop-again Inv-loop μ-loop
 loop-again c = grows-turn (c .before .before .before .loop .inv) (c .before .before .loop-test .taken) (few-new (c .before .before .before .before .before .before .before .before .before .before .before .before .before .before .before .before .before .gathered .ensures) (c .before .before .before .before .before .before .before .before .before .before .before .before .before .before .before .new-atoms .ensures)) (room (c .before .before .before .before .before .before) (c .before .before .before .before .before .if1 .left)) (omega arith) (c .background-entry .ensures)
@@ -222,7 +186,7 @@ propagate-spec =
     Inv-loop
     μ-loop
     literal-named-requires
-    literal-instance-requires
+    (λ c κs. search needs)
     cast-m
     literals-seen-requires
     gathered-requires
@@ -230,27 +194,27 @@ propagate-spec =
     new-atoms-requires
     cast-n
     add-refusal
-    refusal-requires
-    refusal-requires-2
-    refusal-requires-3
-    refusal-requires-4
-    refusal-requires-5
-    refusal-requires-6
-    refusal-requires-7
-    refused-at-requires
+    (λ c κs. search needs)
+    (λ c κs. search needs)
+    (λ c κs. search needs)
+    (λ c κs. search needs)
+    (λ c κs. search needs)
+    (λ c κs. search needs)
+    (λ c κs. search needs)
+    (λ c κs. search needs)
     returns
-    propagated-entry-requires
+    (λ c κs. search needs)
     mul-t23
     element-set-from-next
     loop-holds
     mul-a
     element-copy-out-a
     add-j
-    background-entry-requires
+    (λ c κs. search needs)
     add-t38
     mul-t43
     element-set-from-next-2
-    loop-less
+    (λ c. search needs)
     loop-again
     add-next
     add-next-2

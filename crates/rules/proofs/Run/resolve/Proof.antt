@@ -15,61 +15,22 @@ use Rattle.rules.proofs.refused.Reads as refused-reads
 use Rattle.rules.proofs.resolvent.Reads as resolvent-reads
 
 -- src/lib.rt:535:28
-last-slot-requires : tie.Need-last-slot-requires
-last-slot-requires c κs = search needs
-
 -- src/lib.rt:535:17
-mul-e : tie.Need-mul-e
-mul-e c = search needs
-
 -- src/lib.rt:535:17
 element-copy-out-e : tie.Need-element-copy-out-e
 element-copy-out-e c = omega (arith, c .last-slot .ensures, kept-small (c .before .before .before .pre .0, c .before .before .before .pre .1) .few-entries)
 
 -- src/lib.rt:537:13
-resolvent-requires : tie.Need-resolvent-requires
-resolvent-requires c κs = search needs
-
 -- src/lib.rt:542:17
-literal-exists-requires : tie.Need-literal-exists-requires
-literal-exists-requires c κs = search needs
-
 -- src/lib.rt:548:25
-is-propagated-requires : tie.Need-is-propagated-requires
-is-propagated-requires c κs = search needs
-
 -- src/lib.rt:551:29
-is-complement-requires : tie.Need-is-complement-requires
-is-complement-requires c κs = search needs
-
 -- src/lib.rt:553:29
-refusal-requires : tie.Need-refusal-requires
-refusal-requires c κs = search needs
-
 -- src/lib.rt:550:25
-refusal-requires-2 : tie.Need-refusal-requires-2
-refusal-requires-2 c κs = search needs
-
 -- src/lib.rt:547:21
-refusal-requires-3 : tie.Need-refusal-requires-3
-refusal-requires-3 c κs = search needs
-
 -- src/lib.rt:544:17
-refusal-requires-4 : tie.Need-refusal-requires-4
-refusal-requires-4 c κs = search needs
-
 -- src/lib.rt:541:13
-refusal-requires-5 : tie.Need-refusal-requires-5
-refusal-requires-5 c κs = search needs
-
 -- src/lib.rt:538:13
-refusal-requires-6 : tie.Need-refusal-requires-6
-refusal-requires-6 c κs = search needs
-
 -- src/lib.rt:560:13
-refused-requires : tie.Need-refused-requires
-refused-requires c κs = search needs
-
 -- src/lib.rt:560:13
 returns : tie.Need-returns
 returns c = rw (c .refused .ensures) (λ s R looks. resolve-refused R (c .before .before .before .before .before .before .before .before .before .before .before .before .before .before .before .before .before .args .looked) _ looks _ (c .before .before .before .before .before .before .before .before .before .before .before .before .before .before .last-slot .ensures) _ _ _ (c .before .before .before .before .before .before .before .before .before .before .literal-exists .ensures) (c .before .before .before .before .before .before .before .before .before .is-propagated .ensures) (c .before .before .before .before .before .before .before .before .is-complement .ensures) _ (c .before .before .before .before .before .before .before .before .before .before .before .resolvent .ensures)
@@ -84,19 +45,19 @@ pub resolve-spec : {M : Type 1} → statement M
 resolve-spec =
     tie.close
     (tie.spec
-    last-slot-requires
-    mul-e
+    (λ c κs. search needs)
+    (λ c. search needs)
     element-copy-out-e
-    resolvent-requires
-    literal-exists-requires
-    is-propagated-requires
-    is-complement-requires
-    refusal-requires
-    refusal-requires-2
-    refusal-requires-3
-    refusal-requires-4
-    refusal-requires-5
-    refusal-requires-6
-    refused-requires
+    (λ c κs. search needs)
+    (λ c κs. search needs)
+    (λ c κs. search needs)
+    (λ c κs. search needs)
+    (λ c κs. search needs)
+    (λ c κs. search needs)
+    (λ c κs. search needs)
+    (λ c κs. search needs)
+    (λ c κs. search needs)
+    (λ c κs. search needs)
+    (λ c κs. search needs)
     returns
     returns-2)

@@ -15,9 +15,6 @@ use Rattle.rules.proofs.refused.Reads as refused-reads
 use Rattle.trail.proofs.blank_entry.Reads as blank-entry-reads
 
 -- src/lib.rt:606:13
-last-slot-requires : tie.Need-last-slot-requires
-last-slot-requires c κs = search needs
-
 -- src/lib.rt:607:17
 mul-e : tie.Need-mul-e
 mul-e c = omega (arith, c .last-slot .ensures, kept-small (c .before .pre) .few-entries)
@@ -27,41 +24,20 @@ element-copy-out-e : tie.Need-element-copy-out-e
 element-copy-out-e c = omega (arith, c .last-slot .ensures, kept-small (c .before .pre) .few-entries)
 
 -- src/lib.rt:615:26
-in-conflict-requires : tie.Need-in-conflict-requires
-in-conflict-requires c κs = search needs
-
 -- src/lib.rt:615:17
-refusal-requires : tie.Need-refusal-requires
-refusal-requires c κs = search needs
-
 -- src/lib.rt:612:13
-refusal-requires-2 : tie.Need-refusal-requires-2
-refusal-requires-2 c κs = search needs
-
 -- src/lib.rt:609:13
-refusal-requires-3 : tie.Need-refusal-requires-3
-refusal-requires-3 c κs = search needs
-
 -- src/lib.rt:619:13
-refused-requires : tie.Need-refused-requires
-refused-requires c κs = search needs
-
 -- src/lib.rt:619:13
 returns : tie.Need-returns
 returns c = rw (c .refused .ensures) (λ s R. skip-refused R _ (c .before .before .before .before .before .before .before .before .last-slot .ensures) _ (c .before .before .before .before .before .in-conflict .ensures) (c .before .before .before .before .refusal .ensures) (c .before .before .before .refusal2 .ensures) (c .before .before .refusal3 .ensures) (c .before .if1 .taken))
 
 -- src/lib.rt:621:22
-level-after-requires : tie.Need-level-after-requires
-level-after-requires c κs = search needs
-
 -- src/lib.rt:622:23
 cast-self : tie.Need-cast-self
 cast-self c = omega (arith, c .before .before .before .before .before .before .before .before .last-slot .ensures, kept-small (c .before .before .before .before .before .before .before .before .before .pre) .few-entries)
 
 -- src/lib.rt:623:25
-blank-entry-requires : tie.Need-blank-entry-requires
-blank-entry-requires c κs = search needs
-
 -- src/lib.rt:623:9
 mul-t8 : tie.Need-mul-t8
 mul-t8 c = omega (arith, c .before .before .before .before .before .before .before .before .before .last-slot .ensures, kept-small (c .before .before .before .before .before .before .before .before .before .before .pre) .few-entries)
@@ -79,18 +55,18 @@ pub skip-spec : {M : Type 1} → statement M
 skip-spec =
     tie.close
     (tie.spec
-    last-slot-requires
+    (λ c κs. search needs)
     mul-e
     element-copy-out-e
-    in-conflict-requires
-    refusal-requires
-    refusal-requires-2
-    refusal-requires-3
-    refused-requires
+    (λ c κs. search needs)
+    (λ c κs. search needs)
+    (λ c κs. search needs)
+    (λ c κs. search needs)
+    (λ c κs. search needs)
     returns
-    level-after-requires
+    (λ c κs. search needs)
     cast-self
-    blank-entry-requires
+    (λ c κs. search needs)
     mul-t8
     element-set-from-self
     returns-2)

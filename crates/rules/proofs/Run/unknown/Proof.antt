@@ -7,12 +7,9 @@ use Rattle.rules.proofs.Run.unknown.Lts as lts
 use Rattle.rules.proofs.refused.Reads as refused-reads
 
 -- src/lib.rt:741:9
-refused-requires : tie.Need-refused-requires
-refused-requires c κs = search needs
-
 -- src/lib.rt:737:5
 returns : tie.Need-returns
 returns c = rw (c .refused .ensures) (unknown-answered _ _)
 
 pub unknown-spec : {M : Type 1} → statement M
-unknown-spec = tie.close (tie.spec refused-requires returns)
+unknown-spec = tie.close (tie.spec (λ c κs. search needs) returns)

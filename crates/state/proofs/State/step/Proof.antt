@@ -59,37 +59,16 @@ answered c =
     (c .match .came)
 
 -- src/lib.rt:159:30
-last-slot-requires : tie.Need-last-slot-requires
-last-slot-requires c κs = search needs
-
 -- src/lib.rt:159:20
-mul-last : tie.Need-mul-last
-mul-last c = search needs
-
 -- src/lib.rt:159:20
 element-copy-out-last : tie.Need-element-copy-out-last
 element-copy-out-last c = omega (arith, c .last-slot .ensures, kept-small (c .before .before .pre .0, run-of (c .before .before .pre .1)) .few-entries)
 
 -- src/lib.rt:160:13
-number-looked-requires : tie.Need-number-looked-requires
-number-looked-requires c κs = search needs
-
 -- src/lib.rt:161:31
-slot-of-requires : tie.Need-slot-of-requires
-slot-of-requires c κs = search needs
-
 -- src/lib.rt:161:20
-mul-held : tie.Need-mul-held
-mul-held c = search needs
-
 -- src/lib.rt:161:20
-element-copy-out-held : tie.Need-element-copy-out-held
-element-copy-out-held c = search needs
-
 -- src/lib.rt:162:13
-looked-at-requires : tie.Need-looked-at-requires
-looked-at-requires c κs = search needs
-
 -- src/lib.rt:166:18
 propagate-requires : tie.Need-propagate-requires
 propagate-requires c κs = handed-as (propagate-step (c .before .before .before .before .before .before .before .before .before .args .x) (c .match .keys1)) (handed (c .before))
@@ -127,17 +106,8 @@ unknown-requires : tie.Need-unknown-requires
 unknown-requires c κs = kept (c .before)
 
 -- src/lib.rt:177:23
-cast-learned : tie.Need-cast-learned
-cast-learned c = search needs
-
 -- src/lib.rt:183:25
-sub-clause : tie.Need-sub-clause
-sub-clause c = search needs
-
 -- src/lib.rt:183:13
-mul-clause : tie.Need-mul-clause
-mul-clause c = search needs
-
 -- src/lib.rt:183:13
 element-set-from-clause : tie.Need-element-set-from-clause
 element-set-from-clause c = omega (arith, c .before .before .if1 .taken, slot-free (run-of (c .before .before .before .before .before .before .before .before .before .before .before .before .before .before .pre .1)) _ _ (answered (c .before .before .before .before .before) _ (run-of (c .before .before .before .before .before .before .before .before .before .before .before .before .before .before .pre .1)) (looked-is (c .before .before .before .before .before .before) (c .before .before .before .before .before .before .before .before .before .before .before .before .before .before .pre .1))))
@@ -154,14 +124,14 @@ pub step-spec : {M : Type 1} → statement M
 step-spec =
     tie.close
     (tie.spec
-    last-slot-requires
-    mul-last
+    (λ c κs. search needs)
+    (λ c. search needs)
     element-copy-out-last
-    number-looked-requires
-    slot-of-requires
-    mul-held
-    element-copy-out-held
-    looked-at-requires
+    (λ c κs. search needs)
+    (λ c κs. search needs)
+    (λ c. search needs)
+    (λ c. search needs)
+    (λ c κs. search needs)
     propagate-requires
     decide-requires
     conflict-requires
@@ -171,9 +141,9 @@ step-spec =
     backtrack-requires
     grow-requires
     unknown-requires
-    cast-learned
-    sub-clause
-    mul-clause
+    (λ c. search needs)
+    (λ c. search needs)
+    (λ c. search needs)
     element-set-from-clause
     returns
     returns-2)
