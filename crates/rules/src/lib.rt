@@ -75,16 +75,17 @@ use trail::literals_seen;
 use trail::propagated_entry;
 use trail::undefined;
 
-// "The tool takes a state and one proposed step": what a rule changes of the state. The clause table stands beside it.
+// "The tool takes a state and one proposed step": what a rule changes of the state. The clause table stands beside it. The trail comes first,
+// so that a copy of it begins where a word does.
 pub struct Run {
+    pub trail: [Entry; MOST_ENTRIES],
+    pub conflict: Instanced,
     pub constants: u8,
     pub input: u8,
     pub learned: u8,
     pub level: u8,
     pub length: u8,
     pub stands: bool,
-    pub trail: [Entry; MOST_ENTRIES],
-    pub conflict: Instanced,
 }
 
 // "hands a state back, with a number (0 for accepted) and a place"; and the number under which the conflict that stood was learned, 0 where

@@ -16,11 +16,11 @@ use Rattle.trail.specs.declared.Kind.the-variants.{Background, Propagate
 
 -- The blank entry stands in every slot past the trail's length.
 abbrev pub blankEntry : Entry
-blankEntry = record { kind = Background; atom = noAtom; literal = noLiteral; clause = 0; number = 0; sign = false; count = 0; instance = exactly mostVariables 0 [] }
+blankEntry = record { atom = noAtom; kind = Background; literal = noLiteral; clause = 0; number = 0; sign = false; count = 0; spare = 0; instance = exactly mostVariables 0 [] }
 
 -- What a read past an array's end would give
 abbrev pub pastEnd : Entry
-pastEnd = record { kind = Background; atom = noAtom; literal = noLiteral; clause = 0; number = 0; sign = false; count = 0; instance = [] }
+pastEnd = record { atom = noAtom; kind = Background; literal = noLiteral; clause = 0; number = 0; sign = false; count = 0; spare = 0; instance = [] }
 
 -- What an entry record says, by its kind
 abbrev pub entryAs : Kind → Entry → calculus.Entry
@@ -33,11 +33,11 @@ entryOf e = entryAs (e .kind) e
 
 -- The record of an entry; what its kind has no use for is blank.
 abbrev pub packedEntry : calculus.Entry → Entry
-packedEntry (background a) = record { kind = Background; atom = a; literal = noLiteral; clause = 0; number = 0; sign = false; count = 0; instance = exactly mostVariables 0 [] }
+packedEntry (background a) = record { atom = a; kind = Background; literal = noLiteral; clause = 0; number = 0; sign = false; count = 0; spare = 0; instance = exactly mostVariables 0 [] }
 packedEntry (foreground l (propagated c n τ)) =
-    record { kind = Propagated; atom = noAtom; literal = l; clause = c; number = n; sign = false; count = length τ; instance = exactly mostVariables 0 τ }
+    record { atom = noAtom; kind = Propagated; literal = l; clause = c; number = n; sign = false; count = length τ; spare = 0; instance = exactly mostVariables 0 τ }
 packedEntry (foreground l (decided c n b τ)) =
-    record { kind = Decided; atom = noAtom; literal = l; clause = c; number = n; sign = b; count = length τ; instance = exactly mostVariables 0 τ }
+    record { atom = noAtom; kind = Decided; literal = l; clause = c; number = n; sign = b; count = length τ; spare = 0; instance = exactly mostVariables 0 τ }
 
 -- The first n entries of an array as a trail: the last entry first
 abbrev pub trailOf : List Entry → ℕ → Trail

@@ -41,15 +41,17 @@ pub enum Kind {
 }
 
 // "The trail holds at most 160 entries of both kinds together." A background entry has an atom; a foreground entry has a literal and keeps
-// its step: clause, literal number, Decide's sign, and an instance of `count` constants.
+// its step: clause, literal number, Decide's sign, and an instance of `count` constants. `spare` is 0: it fills the record up to 32 bytes, so
+// that the blank trail is one run of zeros.
 pub struct Entry {
-    pub kind: Kind,
     pub atom: Atom,
+    pub kind: Kind,
     pub literal: Literal,
     pub clause: u8,
     pub number: u8,
     pub sign: bool,
     pub count: u8,
+    pub spare: u16,
     pub instance: [u8; MOST_VARIABLES],
 }
 
@@ -82,6 +84,7 @@ pub fn blank_entry() -> Entry
         number: 0,
         sign: false,
         count: 0,
+        spare: 0,
         instance: instance,
     }
 }
@@ -327,6 +330,7 @@ pub fn propagated_entry(
         number: number,
         sign: false,
         count: n as u8,
+        spare: 0,
         instance: constants,
     }
 }
@@ -354,6 +358,7 @@ pub fn decided_entry(
         number: number,
         sign: sign,
         count: n as u8,
+        spare: 0,
         instance: constants,
     }
 }
