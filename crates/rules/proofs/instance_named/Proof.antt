@@ -9,17 +9,12 @@ use Rattle.rules.proofs.instance_named.Lts as lts
 use Rattle.instances.proofs.instance_fits.Reads as instance-fits-reads
 use Rattle.rules.proofs.clause_exists.Reads as clause-exists-reads
 
--- src/lib.rt:145:9
 returns : tie.Need-returns
 returns c = simp (lt-leb _ 12 (c .if1 .taken))
 
--- src/lib.rt:147:9
--- src/lib.rt:148:9
 returns-2 : tie.Need-returns-2
 returns-2 c = simp (le-leb _ 12 (c .before .before .if1 .left), sym (c .before .clause-exists .ensures) ∙ not-true _ (c .if2 .taken))
 
--- src/lib.rt:150:5
--- src/lib.rt:132:1
 returns-3 : tie.Need-returns-3
 returns-3 c = simp (le-leb _ 12 (c .before .before .before .if1 .left), sym (c .before .before .clause-exists .ensures) ∙ not-false _ (c .before .if2 .left)) (c .instance-fits .ensures)
 

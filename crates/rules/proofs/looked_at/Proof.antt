@@ -6,16 +6,12 @@ use Rattle.rules.proofs.looked_at.Reads as reads
 use Rattle.rules.proofs.looked_at.Lts as lts
 use Rattle.clauses.proofs.no_clause.Reads as no-clause-reads
 
--- src/lib.rt:321:9
--- src/lib.rt:323:9
 returns : tie.Need-returns
 returns c = simp (lt-leb 1 _ (c .if1 .taken), c .before .no-clause .ensures)
 
--- src/lib.rt:326:9
 returns-2 : tie.Need-returns-2
 returns-2 c = simp (le-leb 1 _ (c .before .if1 .left), lt-leb _ 96 (c .if2 .taken), c .before .before .no-clause .ensures)
 
--- src/lib.rt:318:1
 returns-3 : tie.Need-returns-3
 returns-3 c = simp (le-leb 1 _ (c .before .if1 .left), le-leb _ 96 (c .if2 .left))
 

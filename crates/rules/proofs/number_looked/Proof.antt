@@ -6,24 +6,18 @@ use Rattle.rules.proofs.number_looked.Reads as reads
 use Rattle.rules.proofs.number_looked.Lts as lts
 use Rattle.rules.proofs.clause_named.Reads as clause-named-reads
 
--- src/lib.rt:299:14
--- src/lib.rt:291:1
 returns : tie.Need-returns
 returns c = rw (c .match .keys1)
 
--- src/lib.rt:291:1
 returns-2 : tie.Need-returns-2
 returns-2 c = rw (c .match .keys2)
 
--- src/lib.rt:291:1
 returns-3 : tie.Need-returns-3
 returns-3 c = rw (c .match .keys3)
 
--- src/lib.rt:291:1
 returns-4 : tie.Need-returns-4
 returns-4 c = rw (c .before .match .keys4) (c .clause-named .ensures)
 
--- src/lib.rt:291:1
 returns-5 : tie.Need-returns-5
 returns-5 c = simp (ne-eqb _ 1 (c .match .rest .0 .0 .0 .1), ne-eqb _ 2 (c .match .rest .0 .0 .1), ne-eqb _ 3 (c .match .rest .0 .1), ne-eqb _ 4 (c .match .rest .1))
 

@@ -6,12 +6,9 @@ use Rattle.rules.proofs.refused_at.Reads as reads
 use Rattle.rules.proofs.refused_at.Lts as lts
 use Rattle.rules.proofs.refused.Reads as refused-reads
 
--- src/lib.rt:262:9
 returns : tie.Need-returns
 returns c = simp (eq-eqb _ _ (c .if1 .taken))
 
--- src/lib.rt:269:5
--- src/lib.rt:258:1
 returns-2 : tie.Need-returns-2
 returns-2 c = simp (ne-eqb _ _ (c .before .if1 .left)) (c .refused .ensures)
 

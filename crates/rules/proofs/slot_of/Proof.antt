@@ -6,16 +6,12 @@ use Rattle.rules.proofs.slot_of.Tie as tie
 use Rattle.rules.proofs.slot_of.Reads as reads
 use Rattle.rules.proofs.slot_of.Lts as lts
 
--- src/lib.rt:309:9
 returns : tie.Need-returns
 returns c = (simp (lt-leb 1 _ (c .if1 .taken)), omega arith)
 
--- src/lib.rt:312:9
 returns-2 : tie.Need-returns-2
 returns-2 c = (simp (le-leb 1 _ (c .before .if1 .left), lt-leb _ 96 (c .if2 .taken)), omega arith)
 
--- src/lib.rt:314:5
--- src/lib.rt:305:1
 returns-3 : tie.Need-returns-3
 returns-3 c = (simp (le-leb 1 _ (c .before .if1 .left), le-leb _ 96 (c .if2 .left)), omega arith)
 

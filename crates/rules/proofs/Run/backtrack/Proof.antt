@@ -47,49 +47,30 @@ Asked = lts.After-refusal7 (levels-reads.Asked, levels-reads.Learnt, gathered-re
 room : (c : Asked) → c .refusal7 .result ≡ 0 → (c .before .before .before .before .before .before .before .before .before .before .before .before .before .before .levels .result .kept + c .before .before .before .before .before .before .before .before .before .before .before .before .new-atoms .result .count < mostEntries) × (c .before .before .before .before .before .before .before .before .before .before .before .before .before .before .before .before .before .before .before .args .t1 .learned < mostLearned)
 room c z = backtrack-fits (c .before .before .before .before .before .before .before .before .before .before .before .before .before .before .before .before .before .before .before .pre .1) _ _ _ (c .before .before .before .before .before .before .before .before .before .before .literal-exists .ensures) (c .before .before .before .before .before .before .before .before .before .again .ensures) _ (c .before .before .before .before .before .before .before .before .before .before .before .before .before .before .levels .ensures) _ (c .before .before .before .before .before .before .before .before .before .before .before .before .before .gathered .ensures) (c .before .before .before .before .before .before .before .possible .result) (c .before .before .before .before .before .before .before .possible .ensures) _ (c .before .before .before .before .before .before .before .before .before .before .before .before .new-atoms .ensures) (c .before .before .before .before .before .before .refusal .ensures) (c .before .before .before .before .before .refusal2 .ensures) (c .before .before .before .before .refusal3 .ensures) (c .before .before .before .refusal4 .ensures) (c .before .before .refusal5 .ensures) (c .before .refusal6 .ensures) (c .refusal7 .ensures) z
 
--- src/lib.rt:643:13
 levels-requires : tie.Need-levels-requires Inv-loop μ-loop Inv-loop2 μ-loop2
 levels-requires c κs = kept-small (c .before .before .before .before .pre) .few-entries
 
--- src/lib.rt:644:13
 gathered-requires : tie.Need-gathered-requires Inv-loop μ-loop Inv-loop2 μ-loop2
 gathered-requires c κs = omega (arith, kept-small (c .before .before .before .before .before .pre) .few-entries, kept-below (c .before .before .before .before .before .args .t1) (c .before .before .before .before .before .args .l) (c .levels .ensures))
 
--- src/lib.rt:645:21
 new-atoms-requires : tie.Need-new-atoms-requires Inv-loop μ-loop Inv-loop2 μ-loop2
 new-atoms-requires c κs = in-room (c .gathered .ensures)
 
--- src/lib.rt:646:17
 cast-m : tie.Need-cast-m Inv-loop μ-loop Inv-loop2 μ-loop2
 cast-m c = omega (arith, few-new (c .before .gathered .ensures) (c .new-atoms .ensures))
 
--- src/lib.rt:647:20
 cast-kept : tie.Need-cast-kept Inv-loop μ-loop Inv-loop2 μ-loop2
 cast-kept c = omega (arith, kept-small (c .before .before .before .before .before .before .before .before .pre) .few-entries, kept-below (c .before .before .before .before .before .before .before .before .args .t1) (c .before .before .before .before .before .before .before .before .args .l) (c .before .before .before .levels .ensures))
 
--- src/lib.rt:652:17
--- src/lib.rt:655:22
--- src/lib.rt:661:29
 possible-requires : tie.Need-possible-requires Inv-loop μ-loop Inv-loop2 μ-loop2
 possible-requires c κs = in-room (c .before .before .before .before .before .gathered .ensures) .few
 
--- src/lib.rt:664:33
 add-refusal : tie.Need-add-refusal Inv-loop μ-loop Inv-loop2 μ-loop2
 add-refusal c = omega (arith, kept-small (c .before .before .before .before .before .before .before .before .before .before .before .before .pre) .few-entries, kept-below (c .before .before .before .before .before .before .before .before .before .before .before .before .args .t1) (c .before .before .before .before .before .before .before .before .before .before .before .before .args .l) (c .before .before .before .before .before .before .before .levels .ensures), few-new (c .before .before .before .before .before .before .gathered .ensures) (c .before .before .before .before .before .new-atoms .ensures))
 
--- src/lib.rt:666:42
 cast-refusal : tie.Need-cast-refusal Inv-loop μ-loop Inv-loop2 μ-loop2
 cast-refusal c = omega (arith, kept-small (c .before .before .before .before .before .before .before .before .before .before .before .before .pre) .few-learned)
 
--- src/lib.rt:666:33
--- src/lib.rt:663:29
--- src/lib.rt:660:25
--- src/lib.rt:657:21
--- src/lib.rt:654:17
--- src/lib.rt:651:13
--- src/lib.rt:648:13
--- src/lib.rt:674:13
--- src/lib.rt:674:13
 returns : tie.Need-returns Inv-loop μ-loop Inv-loop2 μ-loop2
 returns c =
     let at-if1 = c .before in
@@ -109,99 +90,69 @@ returns c =
     rw (c .refused .ensures) (λ s R. backtrack-refused R _ _ _ (at-literal-exists .literal-exists .ensures) (at-again .again .ensures) _ (at-levels .levels .ensures) _ (at-gathered .gathered .ensures) (at-possible .possible .result) (at-possible .possible .ensures) _ (at-new-atoms .new-atoms .ensures)
     (at-refusal .refusal .ensures) (at-refusal2 .refusal2 .ensures) (at-refusal3 .refusal3 .ensures) (at-refusal4 .refusal4 .ensures) (at-refusal5 .refusal5 .ensures) (at-refusal6 .refusal6 .ensures) (at-refusal7 .refusal7 .ensures) (at-if1 .if1 .taken))
 
--- src/lib.rt:676:19
 add-own : tie.Need-add-own Inv-loop μ-loop Inv-loop2 μ-loop2
 add-own c = omega (arith, kept-small (c .before .before .before .before .before .before .before .before .before .before .before .before .before .before .before .before .before .before .before .before .pre) .few-input, kept-small (c .before .before .before .before .before .before .before .before .before .before .before .before .before .before .before .before .before .before .before .before .pre) .few-learned)
 
--- src/lib.rt:676:19
 add-own-2 : tie.Need-add-own-2 Inv-loop μ-loop Inv-loop2 μ-loop2
 add-own-2 c = omega (arith, kept-small (c .before .before .before .before .before .before .before .before .before .before .before .before .before .before .before .before .before .before .before .before .pre) .few-input, kept-small (c .before .before .before .before .before .before .before .before .before .before .before .before .before .before .before .before .before .before .before .before .pre) .few-learned)
 
--- src/lib.rt:677:13
--- src/lib.rt:678:13
--- src/lib.rt:679:21
 cast-k : tie.Need-cast-k Inv-loop μ-loop Inv-loop2 μ-loop2
 cast-k c = omega (arith, kept-small (c .before .before .before .before .before .before .before .before .before .before .before .before .before .before .before .before .before .before .before .before .before .before .pre) .few-entries)
 
--- src/lib.rt:680:9
 loop-holds : tie.Need-loop-holds Inv-loop μ-loop Inv-loop2 μ-loop2
 loop-holds c = cuts-start _ _ (kept-below (c .before .before .before .before .before .before .before .before .before .before .before .before .before .before .before .before .before .before .before .before .before .before .args .t1) (c .before .before .before .before .before .before .before .before .before .before .before .before .before .before .before .before .before .before .before .before .before .before .args .l) (c .before .before .before .before .before .before .before .before .before .before .before .before .before .before .before .before .before .levels .ensures)) (kept-small (c .before .before .before .before .before .before .before .before .before .before .before .before .before .before .before .before .before .before .before .before .before .before .pre) .trail-held)
 
--- src/lib.rt:681:13
 sub-k : tie.Need-sub-k Inv-loop μ-loop Inv-loop2 μ-loop2
 sub-k c = omega (arith, c .loop-test .taken)
 
--- src/lib.rt:682:13
--- src/lib.rt:682:13
 element-set-from-blank : tie.Need-element-set-from-blank Inv-loop μ-loop Inv-loop2 μ-loop2
 element-set-from-blank c = omega (arith, c .before .loop .inv .stores .few, c .loop-test .taken)
 
--- src/lib.rt:680:9
--- src/lib.rt:680:9
 loop-again : tie.Need-loop-again Inv-loop μ-loop Inv-loop2 μ-loop2
 loop-again c = cuts-turn (c .before .loop .inv) (c .loop-test .taken) (omega (arith, c .loop-test .taken)) (c .before .before .blank-entry .ensures)
 
--- src/lib.rt:684:28
--- src/lib.rt:684:9
 mul-t38 : tie.Need-mul-t38 Inv-loop μ-loop Inv-loop2 μ-loop2
 mul-t38 c = omega (arith, kept-small (c .before .before .before .before .before .before .before .before .before .before .before .before .before .before .before .before .before .before .before .before .before .before .before .before .before .pre) .few-entries, kept-below (c .before .before .before .before .before .before .before .before .before .before .before .before .before .before .before .before .before .before .before .before .before .before .before .before .before .args .t1) (c .before .before .before .before .before .before .before .before .before .before .before .before .before .before .before .before .before .before .before .before .before .before .before .before .before .args .l) (c .before .before .before .before .before .before .before .before .before .before .before .before .before .before .before .before .before .before .before .before .levels .ensures))
 
--- src/lib.rt:684:9
 element-set-from-self : tie.Need-element-set-from-self Inv-loop μ-loop Inv-loop2 μ-loop2
 element-set-from-self c = omega (arith, room (c .before .before .before .before .before .before) (c .before .before .before .before .before .if1 .left) .0)
 
--- src/lib.rt:686:9
 loop2-holds : tie.Need-loop2-holds Inv-loop μ-loop Inv-loop2 μ-loop2
 loop2-holds c = grows-start _ _ _
 
--- src/lib.rt:687:21
 mul-a : tie.Need-mul-a Inv-loop μ-loop Inv-loop2 μ-loop2
 mul-a c = omega (arith, few-new (c .before .before .before .before .before .before .before .before .before .before .before .before .before .before .before .before .before .before .before .before .before .gathered .ensures) (c .before .before .before .before .before .before .before .before .before .before .before .before .before .before .before .before .before .before .before .before .new-atoms .ensures), c .loop2-test .taken)
 
--- src/lib.rt:687:21
 element-copy-out-a : tie.Need-element-copy-out-a Inv-loop μ-loop Inv-loop2 μ-loop2
 element-copy-out-a c = omega (arith, few-new (c .before .before .before .before .before .before .before .before .before .before .before .before .before .before .before .before .before .before .before .before .before .gathered .ensures) (c .before .before .before .before .before .before .before .before .before .before .before .before .before .before .before .before .before .before .before .before .new-atoms .ensures), c .loop2-test .taken)
 
--- src/lib.rt:688:13
 add-j : tie.Need-add-j Inv-loop μ-loop Inv-loop2 μ-loop2
 add-j c = omega (arith, few-new (c .before .before .before .before .before .before .before .before .before .before .before .before .before .before .before .before .before .before .before .before .before .before .gathered .ensures) (c .before .before .before .before .before .before .before .before .before .before .before .before .before .before .before .before .before .before .before .before .before .new-atoms .ensures), c .before .loop2-test .taken)
 
--- src/lib.rt:689:36
--- src/lib.rt:689:24
 add-t49 : tie.Need-add-t49 Inv-loop μ-loop Inv-loop2 μ-loop2
 add-t49 c = omega (arith, room (c .before .before .before .before .before .before .before .before .before .before) (c .before .before .before .before .before .before .before .before .before .if1 .left) .0, c .before .before .loop2-test .taken)
 
--- src/lib.rt:689:13
 mul-t54 : tie.Need-mul-t54 Inv-loop μ-loop Inv-loop2 μ-loop2
 mul-t54 c = omega (arith, room (c .before .before .before .before .before .before .before .before .before .before) (c .before .before .before .before .before .before .before .before .before .if1 .left) .0, c .before .before .loop2-test .taken)
 
--- src/lib.rt:689:13
 element-set-from-self-2 : tie.Need-element-set-from-self-2 Inv-loop μ-loop Inv-loop2 μ-loop2
 element-set-from-self-2 c = omega (arith, room (c .before .before .before .before .before .before .before .before .before .before) (c .before .before .before .before .before .before .before .before .before .if1 .left) .0, c .before .before .loop2-test .taken)
 
--- src/lib.rt:686:9
--- src/lib.rt:686:9
 loop2-again : tie.Need-loop2-again Inv-loop μ-loop Inv-loop2 μ-loop2
 loop2-again c = grows-turn (c .before .before .before .loop2 .inv) (c .before .before .loop2-test .taken) (few-new (c .before .before .before .before .before .before .before .before .before .before .before .before .before .before .before .before .before .before .before .before .before .before .before .gathered .ensures) (c .before .before .before .before .before .before .before .before .before .before .before .before .before .before .before .before .before .before .before .before .before .before .new-atoms .ensures)) (room (c .before .before .before .before .before .before .before .before .before .before) (c .before .before .before .before .before .before .before .before .before .if1 .left) .0) (omega arith) (c .background-entry .ensures)
 
--- src/lib.rt:691:13
--- src/lib.rt:692:24
 add-self : tie.Need-add-self Inv-loop μ-loop Inv-loop2 μ-loop2
 add-self c = omega (arith, room (c .before .before .before .before .before .before .before .before .before) (c .before .before .before .before .before .before .before .before .if1 .left) .0)
 
--- src/lib.rt:692:24
 add-self-2 : tie.Need-add-self-2 Inv-loop μ-loop Inv-loop2 μ-loop2
 add-self-2 c = omega (arith, room (c .before .before .before .before .before .before .before .before .before) (c .before .before .before .before .before .before .before .before .if1 .left) .0)
 
--- src/lib.rt:692:23
 cast-self : tie.Need-cast-self Inv-loop μ-loop Inv-loop2 μ-loop2
 cast-self c = omega (arith, room (c .before .before .before .before .before .before .before .before .before) (c .before .before .before .before .before .before .before .before .if1 .left) .0)
 
--- src/lib.rt:694:9
 add-self-3 : tie.Need-add-self-3 Inv-loop μ-loop Inv-loop2 μ-loop2
 add-self-3 c = omega (arith, ap (λ (q : Run). q .learned) (c .before .before .loop2 .inv .rest), ap (λ (q : Run). q .learned) (c .before .before .before .before .before .loop .inv .rest), room (c .before .before .before .before .before .before .before .before .before) (c .before .before .before .before .before .before .before .before .if1 .left) .1)
 
--- src/lib.rt:635:5
 returns-2 : tie.Need-returns-2 Inv-loop μ-loop Inv-loop2 μ-loop2
 returns-2 c =
     let at-loop2-test = c .before in

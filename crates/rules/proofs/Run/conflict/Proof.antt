@@ -15,30 +15,18 @@ use Rattle.testing.proofs.gathered.Reads as gathered-reads
 use Rattle.testing.proofs.possible.Reads as possible-reads
 use Rattle.trail.proofs.first_not_false.Reads as first-not-false-reads
 
--- src/lib.rt:482:13
 instance-named-requires : tie.Need-instance-named-requires
 instance-named-requires c κs = let h = kept-small (c .before .pre .0, c .before .pre .1) in (h .few-input, h .few-learned)
 
--- src/lib.rt:492:13
--- src/lib.rt:493:13
 first-not-false-requires : tie.Need-first-not-false-requires
 first-not-false-requires c κs = kept-small (c .before .before .before .before .pre .0, c .before .before .before .before .pre .1) .few-entries
 
--- src/lib.rt:494:13
 gathered-requires : tie.Need-gathered-requires
 gathered-requires c κs = kept-small (c .before .before .before .before .before .pre .0, c .before .before .before .before .before .pre .1) .few-entries
 
--- src/lib.rt:495:13
 possible-requires : tie.Need-possible-requires
 possible-requires c κs = in-room (c .gathered .ensures) .few
 
--- src/lib.rt:505:52
--- src/lib.rt:505:21
--- src/lib.rt:502:17
--- src/lib.rt:499:13
--- src/lib.rt:496:13
--- src/lib.rt:510:13
--- src/lib.rt:510:13
 returns : tie.Need-returns
 returns c =
     let at-if1 = c .before in
@@ -56,8 +44,6 @@ returns c =
     rw (c .refused-at .ensures) (λ s R looks. conflict-refused R (first .args .looked) _ _ (first .args .instance) (let g = first .good .1 .1 .1 .0 in search needs) looks _ (at-instance-named .instance-named .ensures) (at-no-literal .no-literal .result) _ (at-first-not-false .first-not-false .ensures) _ (at-gathered .gathered .ensures) (at-possible .possible .result) (at-possible .possible .ensures)
     (at-refusal .refusal .ensures) (at-refusal2 .refusal2 .ensures) (at-refusal3 .refusal3 .ensures) (at-refusal4 .refusal4 .ensures) (at-refusal5 .refusal5 .ensures) (at-if1 .if1 .taken))
 
--- src/lib.rt:512:13
--- src/lib.rt:477:5
 returns-2 : tie.Need-returns-2
 returns-2 c =
     let at-if1 = c .before in

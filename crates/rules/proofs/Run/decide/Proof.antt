@@ -23,49 +23,31 @@ Asked = lts.After-refusal6 (literal-named-reads.Asked, literal-named-reads.Learn
 room : (c : Asked) → c .refusal6 .result ≡ 0 → c .before .before .before .before .before .before .before .before .before .before .before .args .t1 .length < mostEntries
 room c z = decide-fits (c .before .before .before .before .before .before .before .before .before .before .before .pre .1) (c .before .before .before .before .before .before .before .before .before .before .before .args .looked) (c .before .before .before .before .before .before .before .before .before .before .before .args .c) (c .before .before .before .before .before .before .before .before .before .before .before .args .l) (c .before .before .before .before .before .before .before .before .before .before .before .args .sign) (c .before .before .before .before .before .before .before .before .before .before .before .args .count) (c .before .before .before .before .before .before .before .before .before .before .before .args .instance) (let g = c .before .before .before .before .before .before .before .before .before .before .before .good .1 .1 .1 .1 .1 .0 in search needs) (c .before .before .before .before .before .before .before .before .before .before .before .pre .2) _ (c .before .before .before .before .before .before .before .before .decided-literal .ensures) _ _ (c .before .before .before .before .before .before .before .before .before .literal-named .ensures) (c .before .before .before .before .before .before .undefined .ensures) (c .before .before .before .before .before .refusal .ensures) (c .before .before .before .before .refusal2 .ensures) (c .before .before .before .refusal3 .ensures) (c .before .before .refusal4 .ensures) (c .before .refusal5 .ensures) (c .refusal6 .ensures) z
 
--- src/lib.rt:430:13
 literal-named-requires : tie.Need-literal-named-requires
 literal-named-requires c κs = let h = kept-small (c .before .pre .0, c .before .pre .1) in (h .few-input, h .few-learned)
 
--- src/lib.rt:440:13
--- src/lib.rt:442:13
 undefined-requires : tie.Need-undefined-requires
 undefined-requires c κs = kept-small (c .before .before .before .before .pre .0, c .before .before .before .before .pre .1) .few-entries
 
--- src/lib.rt:443:17
 cast-m : tie.Need-cast-m
 cast-m c = omega (arith, kept-small (c .before .before .before .before .before .pre .0, c .before .before .before .before .before .pre .1) .few-entries)
 
--- src/lib.rt:456:56
--- src/lib.rt:456:25
--- src/lib.rt:453:21
--- src/lib.rt:450:17
--- src/lib.rt:447:13
--- src/lib.rt:444:13
--- src/lib.rt:462:13
--- src/lib.rt:462:13
 returns : tie.Need-returns
 returns c = rw (c .refused .ensures) (λ s R looks. decide-refused R (c .before .before .before .before .before .before .before .before .before .before .before .before .before .args .looked) _ _ _ _ (c .before .before .before .before .before .before .before .before .before .before .before .before .before .args .instance) (let g = c .before .before .before .before .before .before .before .before .before .before .before .before .before .good .1 .1 .1 .1 .1 .0 in search needs) looks _ (c .before .before .before .before .before .before .before .before .before .before .decided-literal .ensures) _ _ (c .before .before .before .before .before .before .before .before .before .before .before .literal-named .ensures) (c .before .before .before .before .before .before .before .before .undefined .ensures)
     (c .before .before .before .before .before .before .before .refusal .ensures) (c .before .before .before .before .before .before .refusal2 .ensures) (c .before .before .before .before .before .refusal3 .ensures) (c .before .before .before .before .refusal4 .ensures) (c .before .before .before .refusal5 .ensures) (c .before .before .refusal6 .ensures) (c .before .if1 .taken))
 
--- src/lib.rt:464:25
--- src/lib.rt:464:9
 mul-t20 : tie.Need-mul-t20
 mul-t20 c = omega (arith, kept-small (c .before .before .before .before .before .before .before .before .before .before .before .before .before .pre .0, c .before .before .before .before .before .before .before .before .before .before .before .before .before .pre .1) .few-entries)
 
--- src/lib.rt:464:9
 element-set-from-self : tie.Need-element-set-from-self
 element-set-from-self c = omega (arith, room (c .before .before) (c .before .if1 .left))
 
--- src/lib.rt:465:9
 add-self : tie.Need-add-self
 add-self c = omega (arith, room (c .before .before) (c .before .if1 .left))
 
--- src/lib.rt:466:9
 add-self-2 : tie.Need-add-self-2
 add-self-2 c = omega (arith, kept-small (c .before .before .before .before .before .before .before .before .before .before .before .before .before .pre .0, c .before .before .before .before .before .before .before .before .before .before .before .before .before .pre .1) .few-decisions, room (c .before .before) (c .before .if1 .left))
 
--- src/lib.rt:416:5
 returns-2 : tie.Need-returns-2
 returns-2 c = λ s R looks. decide-told R (c .before .before .before .before .before .before .before .before .before .before .before .before .before .args .looked) _ _ _ _ (c .before .before .before .before .before .before .before .before .before .before .before .before .before .args .instance) (let g = c .before .before .before .before .before .before .before .before .before .before .before .before .before .good .1 .1 .1 .1 .1 .0 in search needs) looks _ (c .before .before .before .before .before .before .before .before .before .before .decided-literal .ensures) _ _ (c .before .before .before .before .before .before .before .before .before .before .before .literal-named .ensures) (c .before .before .before .before .before .before .before .before .undefined .ensures)
     (c .before .before .before .before .before .before .before .refusal .ensures) (c .before .before .before .before .before .before .refusal2 .ensures) (c .before .before .before .before .before .refusal3 .ensures) (c .before .before .before .before .refusal4 .ensures) (c .before .before .before .refusal5 .ensures) (c .before .before .refusal6 .ensures) (c .before .if1 .left) _ (c .decided-entry .ensures)

@@ -13,20 +13,9 @@ use Rattle.merging.proofs.factorize.Reads as factorize-reads
 use Rattle.rules.proofs.refusal.Reads as refusal-reads
 use Rattle.rules.proofs.refused.Reads as refused-reads
 
--- src/lib.rt:582:17
--- src/lib.rt:584:25
--- src/lib.rt:584:17
--- src/lib.rt:581:13
--- src/lib.rt:578:13
--- src/lib.rt:588:13
--- src/lib.rt:588:13
 returns : tie.Need-returns
 returns c = rw (c .refused .ensures) (λ s R. factorize-refused R _ _ _ _ (c .before .before .before .before .before .before .two-literals .ensures) (c .before .before .before .before .before .same-instance .ensures) (c .before .before .before .before .refusal .ensures) (c .before .before .before .refusal2 .ensures) (c .before .before .refusal3 .ensures) (c .before .if1 .taken))
 
--- src/lib.rt:590:44
--- src/lib.rt:590:57
--- src/lib.rt:590:13
--- src/lib.rt:573:5
 returns-2 : tie.Need-returns-2
 returns-2 c = λ s R. let h = factorize-passed R _ _ _ _ (c .before .before .before .before .before .before .before .before .before .two-literals .ensures) (c .before .before .before .before .before .before .before .before .same-instance .ensures) (c .before .before .before .before .before .before .before .refusal .ensures) (c .before .before .before .before .before .before .refusal2 .ensures) (c .before .before .before .before .before .refusal3 .ensures) (c .before .before .before .before .if1 .left) in
     factorize-accepted R _ _ (h .0) (h .1) (h .2) _ (c .before .factorize .ensures ∙ ap₂ (factorized _) (c .before .before .before .index-of .ensures) (c .before .before .index-of2 .ensures))

@@ -9,22 +9,12 @@ use Rattle.rules.proofs.refusal.Reads as refusal-reads
 use Rattle.rules.proofs.refused.Reads as refused-reads
 use Rattle.trail.proofs.empty_trail.Reads as empty-trail-reads
 
--- src/lib.rt:710:25
--- src/lib.rt:710:25
--- src/lib.rt:717:17
--- src/lib.rt:714:13
--- src/lib.rt:711:13
--- src/lib.rt:721:13
--- src/lib.rt:721:13
 returns : tie.Need-returns
 returns c = rw (c .refused .ensures) (λ s R. grow-refused R _ (c .before .before .before .before .refusal .ensures) (c .before .before .before .refusal2 .ensures) (c .before .before .refusal3 .ensures) (c .before .if1 .taken))
 
--- src/lib.rt:723:13
--- src/lib.rt:724:26
 cast-self : tie.Need-cast-self
 cast-self c = let h = grow-passed (c .before .before .before .before .before .before .before .pre .1) _ (c .before .before .before .before .refusal .ensures) (c .before .before .before .refusal2 .ensures) (c .before .before .refusal3 .ensures) (c .before .if1 .left) in omega (arith, h .2)
 
--- src/lib.rt:706:5
 returns-2 : tie.Need-returns-2
 returns-2 c = λ s R. let h = grow-passed R _ (c .before .before .before .before .refusal .ensures) (c .before .before .before .refusal2 .ensures) (c .before .before .refusal3 .ensures) (c .before .if1 .left) in grow-accepted R _ (h .0) (h .1) (h .2) _ (c .empty-trail .ensures)
 

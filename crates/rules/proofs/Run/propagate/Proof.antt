@@ -37,48 +37,30 @@ Asked = lts.After-refusal7 (literal-named-reads.Asked, literal-named-reads.Learn
 room : (c : Asked) → c .refusal7 .result ≡ 0 → c .before .before .before .before .before .before .before .before .before .before .before .before .before .before .before .before .before .before .args .self .length + c .before .before .before .before .before .before .before .before .before .new-atoms .result .count < mostEntries
 room c z = propagate-fits (c .before .before .before .before .before .before .before .before .before .before .before .before .before .before .before .before .before .before .pre .1) (c .before .before .before .before .before .before .before .before .before .before .before .before .before .before .before .before .before .before .args .looked) (c .before .before .before .before .before .before .before .before .before .before .before .before .before .before .before .before .before .before .args .c) (c .before .before .before .before .before .before .before .before .before .before .before .before .before .before .before .before .before .before .args .l) (c .before .before .before .before .before .before .before .before .before .before .before .before .before .before .before .before .before .before .args .count) (c .before .before .before .before .before .before .before .before .before .before .before .before .before .before .before .before .before .before .args .instance) (let g = c .before .before .before .before .before .before .before .before .before .before .before .before .before .before .before .before .before .before .good .1 .1 .1 .1 .0 in search needs) (c .before .before .before .before .before .before .before .before .before .before .before .before .before .before .before .before .before .before .pre .2) _ (c .before .before .before .before .before .before .before .before .before .before .before .before .before .before .before .before .literal-named .ensures) _ (c .before .before .before .before .before .before .before .before .before .before .before .before .before .before .before .literal-instance .ensures) _ (c .before .before .before .before .before .before .before .before .before .before .before .before .literals-seen .ensures) _ (c .before .before .before .before .before .before .before .before .before .before .before .gathered .ensures) (c .before .before .before .before .before .before .before .before .before .before .possible .result) (c .before .before .before .before .before .before .before .before .before .before .possible .ensures) _ (c .before .before .before .before .before .before .before .before .before .new-atoms .ensures) (c .before .before .before .before .before .before .refusal .ensures) (c .before .before .before .before .before .refusal2 .ensures) (c .before .before .before .before .refusal3 .ensures) (c .before .before .before .refusal4 .ensures) (c .before .before .refusal5 .ensures) (c .before .refusal6 .ensures) (c .refusal7 .ensures) z
 
--- src/lib.rt:352:13
 literal-named-requires : tie.Need-literal-named-requires Inv-loop μ-loop
 literal-named-requires c κs = let h = kept-small (c .before .pre .0, c .before .pre .1) in (h .few-input, h .few-learned)
 
--- src/lib.rt:362:13
--- src/lib.rt:364:17
 cast-m : tie.Need-cast-m Inv-loop μ-loop
 cast-m c = omega (arith, kept-small (c .before .before .before .before .before .pre .0, c .before .before .before .before .before .pre .1) .few-entries)
 
--- src/lib.rt:365:13
 literals-seen-requires : tie.Need-literals-seen-requires Inv-loop μ-loop
 literals-seen-requires c κs = kept-small (c .before .before .before .before .before .pre .0, c .before .before .before .before .before .pre .1) .few-entries
 
--- src/lib.rt:366:13
 gathered-requires : tie.Need-gathered-requires Inv-loop μ-loop
 gathered-requires c κs = kept-small (c .before .before .before .before .before .before .pre .0, c .before .before .before .before .before .before .pre .1) .few-entries
 
--- src/lib.rt:367:13
 possible-requires : tie.Need-possible-requires Inv-loop μ-loop
 possible-requires c κs = in-room (c .gathered .ensures) .few
 
--- src/lib.rt:368:21
 new-atoms-requires : tie.Need-new-atoms-requires Inv-loop μ-loop
 new-atoms-requires c κs = in-room (c .before .gathered .ensures)
 
--- src/lib.rt:369:17
 cast-n : tie.Need-cast-n Inv-loop μ-loop
 cast-n c = omega (arith, few-new (c .before .before .gathered .ensures) (c .new-atoms .ensures))
 
--- src/lib.rt:388:41
 add-refusal : tie.Need-add-refusal Inv-loop μ-loop
 add-refusal c = omega (arith, kept-small (c .before .before .before .before .before .before .before .before .before .before .before .pre .0, c .before .before .before .before .before .before .before .before .before .before .before .pre .1) .few-entries, few-new (c .before .before .before .before .gathered .ensures) (c .before .before .new-atoms .ensures))
 
--- src/lib.rt:388:33
--- src/lib.rt:385:29
--- src/lib.rt:382:25
--- src/lib.rt:379:21
--- src/lib.rt:376:17
--- src/lib.rt:373:13
--- src/lib.rt:370:13
--- src/lib.rt:396:13
--- src/lib.rt:396:13
 returns : tie.Need-returns Inv-loop μ-loop
 returns c =
     let at-if1 = c .before in
@@ -99,62 +81,45 @@ returns c =
     rw (c .refused-at .ensures) (λ s R looks. propagate-refused R (first .args .looked) _ _ _ (first .args .instance) (let g = first .good .1 .1 .1 .1 .0 in search needs) looks _ (at-literal-named .literal-named .ensures) _ (at-literal-instance .literal-instance .ensures) _ (at-literals-seen .literals-seen .ensures) _ (at-gathered .gathered .ensures) (at-possible .possible .result) (at-possible .possible .ensures) _ (at-new-atoms .new-atoms .ensures)
     (at-refusal .refusal .ensures) (at-refusal2 .refusal2 .ensures) (at-refusal3 .refusal3 .ensures) (at-refusal4 .refusal4 .ensures) (at-refusal5 .refusal5 .ensures) (at-refusal6 .refusal6 .ensures) (at-refusal7 .refusal7 .ensures) (at-if1 .if1 .taken))
 
--- src/lib.rt:399:25
--- src/lib.rt:399:9
 mul-t23 : tie.Need-mul-t23 Inv-loop μ-loop
 mul-t23 c = omega (arith, kept-small (c .before .before .before .before .before .before .before .before .before .before .before .before .before .before .before .before .before .before .before .before .pre .0, c .before .before .before .before .before .before .before .before .before .before .before .before .before .before .before .before .before .before .before .before .pre .1) .few-entries)
 
--- src/lib.rt:399:9
 element-set-from-next : tie.Need-element-set-from-next Inv-loop μ-loop
 element-set-from-next c = omega (arith, room (c .before .before) (c .before .if1 .left))
 
--- src/lib.rt:401:9
 loop-holds : tie.Need-loop-holds Inv-loop μ-loop
 loop-holds c = grows-start _ _ _
 
--- src/lib.rt:402:21
 mul-a : tie.Need-mul-a Inv-loop μ-loop
 mul-a c = omega (arith, few-new (c .before .before .before .before .before .before .before .before .before .before .before .before .before .before .before .gathered .ensures) (c .before .before .before .before .before .before .before .before .before .before .before .before .before .new-atoms .ensures), c .loop-test .taken)
 
--- src/lib.rt:402:21
 element-copy-out-a : tie.Need-element-copy-out-a Inv-loop μ-loop
 element-copy-out-a c = omega (arith, few-new (c .before .before .before .before .before .before .before .before .before .before .before .before .before .before .before .gathered .ensures) (c .before .before .before .before .before .before .before .before .before .before .before .before .before .new-atoms .ensures), c .loop-test .taken)
 
--- src/lib.rt:403:13
 add-j : tie.Need-add-j Inv-loop μ-loop
 add-j c = omega (arith, few-new (c .before .before .before .before .before .before .before .before .before .before .before .before .before .before .before .before .gathered .ensures) (c .before .before .before .before .before .before .before .before .before .before .before .before .before .before .new-atoms .ensures), c .before .loop-test .taken)
 
--- src/lib.rt:404:33
--- src/lib.rt:404:24
 add-t38 : tie.Need-add-t38 Inv-loop μ-loop
 add-t38 c = omega (arith, kept-small (c .before .before .before .before .before .before .before .before .before .before .before .before .before .before .before .before .before .before .before .before .before .before .before .before .pre .0, c .before .before .before .before .before .before .before .before .before .before .before .before .before .before .before .before .before .before .before .before .before .before .before .before .pre .1) .few-entries, few-new (c .before .before .before .before .before .before .before .before .before .before .before .before .before .before .before .before .before .gathered .ensures) (c .before .before .before .before .before .before .before .before .before .before .before .before .before .before .before .new-atoms .ensures), c .before .before .loop-test .taken)
 
--- src/lib.rt:404:13
 mul-t43 : tie.Need-mul-t43 Inv-loop μ-loop
 mul-t43 c = omega (arith, kept-small (c .before .before .before .before .before .before .before .before .before .before .before .before .before .before .before .before .before .before .before .before .before .before .before .before .pre .0, c .before .before .before .before .before .before .before .before .before .before .before .before .before .before .before .before .before .before .before .before .before .before .before .before .pre .1) .few-entries, few-new (c .before .before .before .before .before .before .before .before .before .before .before .before .before .before .before .before .before .gathered .ensures) (c .before .before .before .before .before .before .before .before .before .before .before .before .before .before .before .new-atoms .ensures), c .before .before .loop-test .taken)
 
--- src/lib.rt:404:13
 element-set-from-next-2 : tie.Need-element-set-from-next-2 Inv-loop μ-loop
 element-set-from-next-2 c = omega (arith, room (c .before .before .before .before .before .before) (c .before .before .before .before .before .if1 .left), c .before .before .loop-test .taken)
 
--- src/lib.rt:401:9
--- src/lib.rt:401:9
 loop-again : tie.Need-loop-again Inv-loop μ-loop
 loop-again c = grows-turn (c .before .before .before .loop .inv) (c .before .before .loop-test .taken) (few-new (c .before .before .before .before .before .before .before .before .before .before .before .before .before .before .before .before .before .gathered .ensures) (c .before .before .before .before .before .before .before .before .before .before .before .before .before .before .before .new-atoms .ensures)) (room (c .before .before .before .before .before .before) (c .before .before .before .before .before .if1 .left)) (omega arith) (c .background-entry .ensures)
 
--- src/lib.rt:406:24
 add-next : tie.Need-add-next Inv-loop μ-loop
 add-next c = omega (arith, kept-small (c .before .before .before .before .before .before .before .before .before .before .before .before .before .before .before .before .before .before .before .before .before .before .pre .0, c .before .before .before .before .before .before .before .before .before .before .before .before .before .before .before .before .before .before .before .before .before .before .pre .1) .few-entries, few-new (c .before .before .before .before .before .before .before .before .before .before .before .before .before .before .before .gathered .ensures) (c .before .before .before .before .before .before .before .before .before .before .before .before .before .new-atoms .ensures))
 
--- src/lib.rt:406:24
 add-next-2 : tie.Need-add-next-2 Inv-loop μ-loop
 add-next-2 c = omega (arith, kept-small (c .before .before .before .before .before .before .before .before .before .before .before .before .before .before .before .before .before .before .before .before .before .before .pre .0, c .before .before .before .before .before .before .before .before .before .before .before .before .before .before .before .before .before .before .before .before .before .before .pre .1) .few-entries, few-new (c .before .before .before .before .before .before .before .before .before .before .before .before .before .before .before .gathered .ensures) (c .before .before .before .before .before .before .before .before .before .before .before .before .before .new-atoms .ensures))
 
--- src/lib.rt:406:23
 cast-next : tie.Need-cast-next Inv-loop μ-loop
 cast-next c = omega (arith, kept-small (c .before .before .before .before .before .before .before .before .before .before .before .before .before .before .before .before .before .before .before .before .before .before .pre .0, c .before .before .before .before .before .before .before .before .before .before .before .before .before .before .before .before .before .before .before .before .before .before .pre .1) .few-entries, few-new (c .before .before .before .before .before .before .before .before .before .before .before .before .before .before .before .gathered .ensures) (c .before .before .before .before .before .before .before .before .before .before .before .before .before .new-atoms .ensures))
 
--- src/lib.rt:340:5
 returns-2 : tie.Need-returns-2 Inv-loop μ-loop
 returns-2 c =
     let at-loop = c .before in

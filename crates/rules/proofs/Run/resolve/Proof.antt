@@ -14,29 +14,13 @@ use Rattle.rules.proofs.refusal.Reads as refusal-reads
 use Rattle.rules.proofs.refused.Reads as refused-reads
 use Rattle.rules.proofs.resolvent.Reads as resolvent-reads
 
--- src/lib.rt:535:28
--- src/lib.rt:535:17
--- src/lib.rt:535:17
 element-copy-out-e : tie.Need-element-copy-out-e
 element-copy-out-e c = omega (arith, c .last-slot .ensures, kept-small (c .before .before .before .pre .0, c .before .before .before .pre .1) .few-entries)
 
--- src/lib.rt:537:13
--- src/lib.rt:542:17
--- src/lib.rt:548:25
--- src/lib.rt:551:29
--- src/lib.rt:553:29
--- src/lib.rt:550:25
--- src/lib.rt:547:21
--- src/lib.rt:544:17
--- src/lib.rt:541:13
--- src/lib.rt:538:13
--- src/lib.rt:560:13
--- src/lib.rt:560:13
 returns : tie.Need-returns
 returns c = rw (c .refused .ensures) (λ s R looks. resolve-refused R (c .before .before .before .before .before .before .before .before .before .before .before .before .before .before .before .before .before .args .looked) _ looks _ (c .before .before .before .before .before .before .before .before .before .before .before .before .before .before .last-slot .ensures) _ _ _ (c .before .before .before .before .before .before .before .before .before .before .literal-exists .ensures) (c .before .before .before .before .before .before .before .before .before .is-propagated .ensures) (c .before .before .before .before .before .before .before .before .is-complement .ensures) _ (c .before .before .before .before .before .before .before .before .before .before .before .resolvent .ensures)
     (c .before .before .before .before .before .before .before .refusal .ensures) (c .before .before .before .before .before .before .refusal2 .ensures) (c .before .before .before .before .before .refusal3 .ensures) (c .before .before .before .before .refusal4 .ensures) (c .before .before .before .refusal5 .ensures) (c .before .before .refusal6 .ensures) (c .before .if1 .taken))
 
--- src/lib.rt:529:5
 returns-2 : tie.Need-returns-2
 returns-2 c = λ s R looks. resolve-told R (c .before .before .before .before .before .before .before .before .before .before .before .before .before .before .before .before .before .args .looked) _ looks _ (c .before .before .before .before .before .before .before .before .before .before .before .before .before .before .last-slot .ensures) _ _ _ (c .before .before .before .before .before .before .before .before .before .before .literal-exists .ensures) (c .before .before .before .before .before .before .before .before .before .is-propagated .ensures) (c .before .before .before .before .before .before .before .before .is-complement .ensures) _ (c .before .before .before .before .before .before .before .before .before .before .before .resolvent .ensures)
     (c .before .before .before .before .before .before .before .refusal .ensures) (c .before .before .before .before .before .before .refusal2 .ensures) (c .before .before .before .before .before .refusal3 .ensures) (c .before .before .before .before .refusal4 .ensures) (c .before .before .before .refusal5 .ensures) (c .before .before .refusal6 .ensures) (c .before .if1 .left)

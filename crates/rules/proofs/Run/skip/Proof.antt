@@ -14,39 +14,24 @@ use Rattle.rules.proofs.refusal.Reads as refusal-reads
 use Rattle.rules.proofs.refused.Reads as refused-reads
 use Rattle.trail.proofs.blank_entry.Reads as blank-entry-reads
 
--- src/lib.rt:606:13
--- src/lib.rt:607:17
 mul-e : tie.Need-mul-e
 mul-e c = omega (arith, c .last-slot .ensures, kept-small (c .before .pre) .few-entries)
 
--- src/lib.rt:607:17
 element-copy-out-e : tie.Need-element-copy-out-e
 element-copy-out-e c = omega (arith, c .last-slot .ensures, kept-small (c .before .pre) .few-entries)
 
--- src/lib.rt:615:26
--- src/lib.rt:615:17
--- src/lib.rt:612:13
--- src/lib.rt:609:13
--- src/lib.rt:619:13
--- src/lib.rt:619:13
 returns : tie.Need-returns
 returns c = rw (c .refused .ensures) (λ s R. skip-refused R _ (c .before .before .before .before .before .before .before .before .last-slot .ensures) _ (c .before .before .before .before .before .in-conflict .ensures) (c .before .before .before .before .refusal .ensures) (c .before .before .before .refusal2 .ensures) (c .before .before .refusal3 .ensures) (c .before .if1 .taken))
 
--- src/lib.rt:621:22
--- src/lib.rt:622:23
 cast-self : tie.Need-cast-self
 cast-self c = omega (arith, c .before .before .before .before .before .before .before .before .last-slot .ensures, kept-small (c .before .before .before .before .before .before .before .before .before .pre) .few-entries)
 
--- src/lib.rt:623:25
--- src/lib.rt:623:9
 mul-t8 : tie.Need-mul-t8
 mul-t8 c = omega (arith, c .before .before .before .before .before .before .before .before .before .last-slot .ensures, kept-small (c .before .before .before .before .before .before .before .before .before .before .pre) .few-entries)
 
--- src/lib.rt:623:9
 element-set-from-self : tie.Need-element-set-from-self
 element-set-from-self c = omega (arith, c .before .before .before .before .before .before .before .before .before .last-slot .ensures, kept-small (c .before .before .before .before .before .before .before .before .before .before .pre) .few-entries)
 
--- src/lib.rt:602:5
 returns-2 : tie.Need-returns-2
 returns-2 c = λ s R. let h = skip-passed R _ (c .before .before .before .before .before .before .before .before .before .last-slot .ensures) _ (c .before .before .before .before .before .before .in-conflict .ensures) (c .before .before .before .before .before .refusal .ensures) (c .before .before .before .before .refusal2 .ensures) (c .before .before .before .refusal3 .ensures) (c .before .before .if1 .left) in
     skip-accepted R (h .0) (h .1) _ (c .before .before .before .before .before .before .before .before .before .last-slot .ensures) (h .2) _ (c .before .level-after .ensures) _ (c .blank-entry .ensures)

@@ -6,8 +6,6 @@ use Rattle.rules.proofs.Run.unknown.Reads as reads
 use Rattle.rules.proofs.Run.unknown.Lts as lts
 use Rattle.rules.proofs.refused.Reads as refused-reads
 
--- src/lib.rt:741:9
--- src/lib.rt:737:5
 returns : tie.Need-returns
 returns c = rw (c .refused .ensures) (unknown-answered _ _)
 

@@ -58,65 +58,42 @@ answered c =
     (λ w. answers-as (unknown-step (c .before .before .before .before .before .before .before .before .before .args .x) (w .0 .rest .0 .0 .0 .0 .0 .0 .0 .1) (w .0 .rest .0 .0 .0 .0 .0 .0 .1) (w .0 .rest .0 .0 .0 .0 .0 .1) (w .0 .rest .0 .0 .0 .0 .1) (w .0 .rest .0 .0 .0 .1) (w .0 .rest .0 .0 .1) (w .0 .rest .0 .1) (w .0 .rest .1)) (w .2) (w .1 .ensures))))))))))
     (c .match .came)
 
--- src/lib.rt:159:30
--- src/lib.rt:159:20
--- src/lib.rt:159:20
 element-copy-out-last : tie.Need-element-copy-out-last
 element-copy-out-last c = omega (arith, c .last-slot .ensures, kept-small (c .before .before .pre .0, run-of (c .before .before .pre .1)) .few-entries)
 
--- src/lib.rt:160:13
--- src/lib.rt:161:31
--- src/lib.rt:161:20
--- src/lib.rt:161:20
--- src/lib.rt:162:13
--- src/lib.rt:166:18
 propagate-requires : tie.Need-propagate-requires
 propagate-requires c κs = handed-as (propagate-step (c .before .before .before .before .before .before .before .before .before .args .x) (c .match .keys1)) (handed (c .before))
 
--- src/lib.rt:167:18
 decide-requires : tie.Need-decide-requires
 decide-requires c κs = handed-as (decide-step (c .before .before .before .before .before .before .before .before .before .args .x) (c .match .keys2)) (handed (c .before))
 
--- src/lib.rt:168:18
 conflict-requires : tie.Need-conflict-requires
 conflict-requires c κs = handed-as (conflict-step (c .before .before .before .before .before .before .before .before .before .args .x) (c .match .keys3)) (handed (c .before))
 
--- src/lib.rt:169:18
 resolve-requires : tie.Need-resolve-requires
 resolve-requires c κs = handed-as (resolve-step (c .before .before .before .before .before .before .before .before .before .args .x) (c .match .keys4)) (handed (c .before))
 
--- src/lib.rt:170:18
 factorize-requires : tie.Need-factorize-requires
 factorize-requires c κs = kept (c .before)
 
--- src/lib.rt:171:18
 skip-requires : tie.Need-skip-requires
 skip-requires c κs = kept (c .before)
 
--- src/lib.rt:172:18
 backtrack-requires : tie.Need-backtrack-requires
 backtrack-requires c κs = kept (c .before)
 
--- src/lib.rt:173:18
 grow-requires : tie.Need-grow-requires
 grow-requires c κs = kept (c .before)
 
--- src/lib.rt:174:18
 unknown-requires : tie.Need-unknown-requires
 unknown-requires c κs = kept (c .before)
 
--- src/lib.rt:177:23
--- src/lib.rt:183:25
--- src/lib.rt:183:13
--- src/lib.rt:183:13
 element-set-from-clause : tie.Need-element-set-from-clause
 element-set-from-clause c = omega (arith, c .before .before .if1 .taken, slot-free (run-of (c .before .before .before .before .before .before .before .before .before .before .before .before .before .before .pre .1)) _ _ (answered (c .before .before .before .before .before) _ (run-of (c .before .before .before .before .before .before .before .before .before .before .before .before .before .before .pre .1)) (looked-is (c .before .before .before .before .before .before) (c .before .before .before .before .before .before .before .before .before .before .before .before .before .before .pre .1))))
 
--- src/lib.rt:154:5
 returns : tie.Need-returns
 returns c = λ s S. step-answers S (c .before .before .before .before .before .before .before .before .before .before .before .before .before .before .args .x) _ (answered (c .before .before .before .before .before) s (run-of S) (looked-is (c .before .before .before .before .before .before) S)) _ (table-written (c .before .before .before .before .before .before .before .before .before .before .before .before .before .before .args .t1 .table) (c .before .before .before .before .before .before .before .before .before .before .before .before .before .before .args .t1 .run) (c .before .before .before .before .before .match .a) (c .before .before .if1 .taken))
 
--- src/lib.rt:154:5
 returns-2 : tie.Need-returns-2
 returns-2 c = λ s S. step-answers S (c .before .before .before .before .before .before .before .before .before .before .before .before .args .x) _ (answered (c .before .before .before) s (run-of S) (looked-is (c .before .before .before .before) S)) _ (table-left (c .before .before .before .before .before .before .before .before .before .before .before .before .args .t1 .table) (c .before .before .before .before .before .before .before .before .before .before .before .before .args .t1 .run) (c .before .before .before .match .a) (c .if1 .left))
 
