@@ -1,6 +1,6 @@
 //! Cases that are read from text. Those of `cases/runs.txt` are runs that a file can say: they are turned into
 //! run files, packed for `crates/file_cases`. Those of `cases/records.txt` are merging, admission and steps
-//! offered without a file: `crates/rule_cases` has the same in its code.
+//! offered without a file: they are packed for `crates/rule_cases`.
 //!
 //! A case is a name, a number that says what is done, and what it is done to. 0 and 9 are a run: the
 //! numbers of constants, predicates and clauses, the arities, the clauses, each as often as the number
@@ -10,6 +10,10 @@
 //! step is a rule, a clause, two literals, a sign, Grow's count, the instance's count and the instance. A
 //! line that begins with a blank goes on with the case before it; one that begins with # is passed over.
 //! Whatever is no digit, minus sign or bar only parts numbers.
+
+mod records;
+
+pub use records::packed_records;
 
 use crate::admission::{admit, ClauseRecord, LiteralRecord, StepRecord};
 use crate::clause::{Atom, Clause, Closure, Literal};

@@ -1,10 +1,11 @@
 //! What the programs of cases must print is what this checker makes of the same cases.
 
-use checker::cases::{answers, inspections, packed, run_files};
+use checker::cases::{answers, inspections, packed, packed_records, run_files};
 use checker::limits::FILE_BYTES;
 use checker::listing::listing;
 use std::fs;
 
+const RECORDS: &[u8] = include_bytes!("../cases/records.txt");
 const RUNS: &[u8] = include_bytes!("../cases/runs.txt");
 const FOLDER: &str = concat!(env!("CARGO_MANIFEST_DIR"), "/../crates/file_cases");
 
@@ -28,7 +29,13 @@ fn damaged(line: &str, copy: &[u8]) -> Vec<u8> {
 #[test]
 fn the_records_come_to_what_rule_cases_must_print() {
     let expected = include_str!("../../crates/rule_cases/stdout");
-    assert_eq!(answers(include_bytes!("../cases/records.txt")), expected);
+    assert_eq!(answers(RECORDS), expected);
+}
+
+#[test]
+fn the_records_are_what_rule_cases_reads() {
+    let read = include_bytes!("../../crates/rule_cases/stdin");
+    assert_eq!(packed_records(RECORDS), read);
 }
 
 #[test]

@@ -1,8 +1,9 @@
 //! `check`: reads a run file from standard input and prints the listing; with the word `inspect` the
 //! listing and then the final state. With the word `records` or `runs` it reads cases of that kind and prints
-//! what they come to; with `pack` it reads runs and prints them as files.
+//! what they come to; with `pack` it reads runs and prints them as files, and with `pack-records` it reads
+//! records and prints them as `crates/rule_cases` reads them.
 
-use checker::cases::{answers, inspections, packed, run_files};
+use checker::cases::{answers, inspections, packed, packed_records, run_files};
 use checker::limits;
 use checker::listing::{inspection, listing};
 use std::io::{self, Read, Write};
@@ -17,8 +18,9 @@ fn main() -> ExitCode {
         ["records"] => |text| answers(text).into(),
         ["runs"] => |text| inspections(&run_files(text)).into(),
         ["pack"] => |text| packed(&run_files(text)),
+        ["pack-records"] => packed_records,
         _ => {
-            eprintln!("usage: check [inspect | records | runs | pack] < file");
+            eprintln!("usage: check [inspect | records | runs | pack | pack-records] < file");
             return ExitCode::FAILURE;
         }
     };
