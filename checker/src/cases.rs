@@ -1,6 +1,6 @@
 //! Cases that are read from text. Those of `cases/runs.txt` are runs that a file can say: they are turned into
-//! run files, packed for `crates/file_cases`. Those of `cases/records.txt` are merging, admission and steps
-//! offered without a file: `crates/rule_cases` has the same in its code.
+//! run files, packed for `crates/file_cases`, as are the damages of `cases/damages.txt`. Those of `cases/records.txt` are merging, admission and steps
+//! offered without a file: they are packed for `crates/rule_cases`.
 //!
 //! A case is a name, a number that says what is done, and what it is done to. 0 and 9 are a run: the
 //! numbers of constants, predicates and clauses, the arities, the clauses, each as often as the number
@@ -11,6 +11,10 @@
 //! line that begins with a blank goes on with the case before it; one that begins with # is passed over.
 //! Whatever is no digit, minus sign or bar only parts numbers.
 
+mod records;
+
+pub use records::packed_records;
+
 use crate::admission::{admit, ClauseRecord, LiteralRecord, StepRecord};
 use crate::clause::{Atom, Clause, Closure, Literal};
 use crate::file::{write, RunFile};
@@ -20,6 +24,9 @@ use crate::refusal::Refusal;
 use crate::rules::{factor, resolvent};
 use crate::state::{Origin, State};
 use std::collections::VecDeque;
+
+/// The file that is damaged.
+const DAMAGED: &[u8] = include_bytes!("../../examples/first.drf");
 
 /// What the cases come to: of each its name, and then what merging makes of it, or a run's answers and
 /// states.
@@ -87,6 +94,26 @@ fn files_of(case: &str) -> Vec<NamedFile> {
     }
 }
 
+/// Damaged copies of a file, named by the lines of the text that say the damages.
+pub fn damaged_files(text: &[u8]) -> Vec<NamedFile> {
+    let text = String::from_utf8_lossy(text);
+    let lines = text.lines().filter(|line| !line.starts_with('#'));
+    lines.map(|line| NamedFile { name: line.to_string(), bytes: damaged(line) }).collect()
+}
+
+/// A copy of the file that is damaged, 64 bytes of it and zeros past its end: so many bytes are kept, and some
+/// are changed, each by its place and value.
+fn damaged(line: &str) -> Vec<u8> {
+    let mut numbers = line.split(' ').map(|word| word.parse::<usize>().expect("a number"));
+    let kept = numbers.next().expect("how many bytes are kept");
+    let mut bytes = [DAMAGED, &[0; 64]].concat()[..64].to_vec();
+    while let (Some(place), Some(value)) = (numbers.next(), numbers.next()) {
+        bytes[place] = value as u8;
+    }
+    bytes.truncate(kept);
+    bytes
+}
+
 /// Files one after the other: the length of a name in a byte, the name, the length of the file in two bytes,
 /// and the file.
 pub fn packed(files: &[NamedFile]) -> Vec<u8> {
@@ -100,7 +127,12 @@ pub fn packed(files: &[NamedFile]) -> Vec<u8> {
     bytes
 }
 
-/// What files come to: of each its name, the number and place of the last answer, the listing and the final
+/// What files come to where they are judged: of each its name and the listing.
+pub fn listings(files: &[NamedFile]) -> String {
+    files.iter().map(|file| format!("{}\n{}", file.name, listing::listing(&file.bytes))).collect()
+}
+
+/// What files come to where they are inspected: of each its name, the number and place of the last answer, the listing and the final
 /// state.
 pub fn inspections(files: &[NamedFile]) -> String {
     let told = |file: &NamedFile| {

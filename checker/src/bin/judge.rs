@@ -1,8 +1,9 @@
 //! `check`: reads a run file from standard input and prints the listing; with the word `inspect` the
 //! listing and then the final state. With the word `records` or `runs` it reads cases of that kind and prints
-//! what they come to; with `pack` it reads runs and prints them as files.
+//! what they come to. With `pack-damages` or `pack-runs` it reads such cases and prints them as files, packed for
+//! `crates/file_cases`; with `pack-records` it reads records and prints them packed for `crates/rule_cases`.
 
-use checker::cases::{answers, inspections, packed, run_files};
+use checker::cases::{answers, damaged_files, inspections, packed, packed_records, run_files};
 use checker::limits;
 use checker::listing::{inspection, listing};
 use std::io::{self, Read, Write};
@@ -16,9 +17,11 @@ fn main() -> ExitCode {
         ["inspect"] => |bytes| inspection(bytes).into(),
         ["records"] => |text| answers(text).into(),
         ["runs"] => |text| inspections(&run_files(text)).into(),
-        ["pack"] => |text| packed(&run_files(text)),
+        ["pack-damages"] => |text| packed(&damaged_files(text)),
+        ["pack-runs"] => |text| packed(&run_files(text)),
+        ["pack-records"] => packed_records,
         _ => {
-            eprintln!("usage: check [inspect | records | runs | pack] < file");
+            eprintln!("usage: check [inspect | records | runs | pack-damages | pack-runs | pack-records] < file");
             return ExitCode::FAILURE;
         }
     };

@@ -1,9 +1,8 @@
-// Judges damaged copies of a run file, then packed files, and then whole files. The first argument names the file that is damaged, the second
-// that of the packed files, the others the whole files.
-// Standard input has a damage to a line: how many bytes are kept (zeros follow where that is more than the file has), and then places and
-// what is put there. A line that starts with # is passed over. Standard output has each line, or the file's name, and its listing; of a packed
-// file besides the number and place of the last answer, and the final state.
+// Judges and inspects packed files, and judges whole files. Standard input has packed files that are judged; the first argument names a file
+// that has packed files that are inspected, the others name the whole files. Standard output has each file's name and its listing; of a file
+// that is inspected besides the number and place of the last answer, and the final state.
 // Packed files stand one after the other: the length of a name in a byte, the name, the length of the file in two bytes, and the file.
+// The checker packs the damages and runs of `checker/cases`.
 ghost use mathlib.Core.Path.{_≡_};
 ghost use Prim.Native.Nat.{_≤_, _<_};
 ghost use lib.ListN.{length};
@@ -16,15 +15,6 @@ use libc::STDOUT_FILENO;
 
 // "The program reads no more."
 const MOST_READ: usize = 65535;
-
-// A copy that is damaged
-const COPY: usize = 64;
-
-// A number of the text, and where the text goes on
-struct Read {
-    value: u32,
-    next: usize,
-}
 
 fn print(text: &[u8]) {
     io::write_all(STDOUT_FILENO, text);
@@ -52,7 +42,9 @@ fn within(n: usize, buffer: &[u8]) -> usize
     buffer.len()
 }
 
+// The end of a line, and the listing
 fn print_listing(file: &[u8]) {
+    print(b"\n");
     let mut out = listing_buffer();
     let answer = judging::judge(file, &mut out);
     match answer {
@@ -67,106 +59,6 @@ fn print_listing(file: &[u8]) {
         Written::Short => {
             print(b"short\n");
         }
-    }
-}
-
-// ---- damaged copies
-
-fn is_digit(b: u8) -> bool {
-    if b < b'0' {
-        return false;
-    }
-    b <= b'9'
-}
-
-// The number whose digits begin at a place; the place after one byte more, the space
-fn number(s: &[u8], at: usize) -> Read
-    ensures { λ r. ⌜ (at ≤ r .next) × (at < length (now (s .entry)) → at < r .next) ⌝ }
-{
-    let mut value: u32 = 0;
-    let mut i = at;
-    while i < s.len() {
-        let b = s[i];
-        if !is_digit(b) {
-            return Read {
-                value: value,
-                next: i + 1,
-            };
-        }
-        value = (value % 1000) * 10 + ((b % 16) as u32);
-        i += 1;
-    }
-    Read {
-        value: value,
-        next: i,
-    }
-}
-
-// A copy with one byte changed
-fn changed(copy: [u8; COPY], place: u32, value: u32) -> [u8; COPY]
-    ensures { λ r. ⌜ length r ≡ length copy ⌝ }
-{
-    let mut next = copy;
-    let k = place as usize;
-    if k < COPY {
-        next[k] = (value % 256) as u8;
-    }
-    next
-}
-
-// A copy with the changes that stand in the text
-fn damaged(copy: [u8; COPY], s: &[u8], at: usize) -> [u8; COPY]
-    requires { ⌜ length copy ≡ 64 ⌝ }
-    ensures { λ r. ⌜ 64 ≡ length r ⌝ }
-{
-    let mut next = copy;
-    let mut i = at;
-    while i < s.len() {
-        let place = number(s, i);
-        let value = number(s, place.next);
-        let last = changed(next, place.value, value.value);
-        next = last;
-        i = value.next;
-    }
-    next
-}
-
-fn print_damaged(copy: [u8; COPY], s: &[u8]) {
-    if s.len() == 0 {
-        return;
-    }
-    if s[0] == b'#' {
-        return;
-    }
-    print(s);
-    print(b"\n");
-    let kept = number(s, 0);
-    let file = damaged(copy, s, kept.next);
-    let n = within(kept.value as usize, &file);
-    print_listing(&file[..n]);
-}
-
-// Where the line that a place is in ends
-fn line_end(s: &[u8], at: usize) -> usize
-    requires { ⌜ at ≤ length (now s) ⌝ }
-    ensures { λ r. ⌜ (at ≤ r) × (r ≤ length (now (s .entry))) ⌝ }
-{
-    let mut i = at;
-    while i < s.len() {
-        if s[i] == b'\n' {
-            return i;
-        }
-        i += 1;
-    }
-    i
-}
-
-fn print_all_damaged(copy: [u8; COPY], s: &[u8]) {
-    let mut at: usize = 0;
-    while at < s.len() {
-        let end = line_end(s, at);
-        print_damaged(copy, &s[at..end]);
-        at = end + 1;
     }
 }
 
@@ -219,8 +111,17 @@ fn onward(s: &[u8], at: usize, n: usize) -> usize
     if n < s.len() - at { at + n } else { s.len() }
 }
 
+// After a file's name: the listing, or what an inspection says
+fn print_judged(file: &[u8], inspected: bool) {
+    if inspected {
+        print_inspection(file);
+    } else {
+        print_listing(file);
+    }
+}
+
 // The file packed at a place: the place after it
-fn print_packed(s: &[u8], at: usize) -> usize
+fn print_packed(s: &[u8], at: usize, inspected: bool) -> usize
     requires { ⌜ at < length (now s) ⌝ }
     ensures { λ r. ⌜ (at < r) × (r ≤ length (now (s .entry))) ⌝ }
 {
@@ -231,14 +132,14 @@ fn print_packed(s: &[u8], at: usize) -> usize
     let file = onward(s, high, 1);
     let n = byte(s, low) as usize + 256 * (byte(s, high) as usize);
     let end = onward(s, file, n);
-    print_inspection(&s[file..end]);
+    print_judged(&s[file..end], inspected);
     end
 }
 
-fn print_all_packed(s: &[u8]) {
+fn print_all_packed(s: &[u8], inspected: bool) {
     let mut at: usize = 0;
     while at < s.len() {
-        let next = print_packed(s, at);
+        let next = print_packed(s, at, inspected);
         at = next;
     }
 }
@@ -264,25 +165,27 @@ fn print_file(k: usize) {
     let mut name = io::buffer();
     let n = os::arg(k, &mut name);
     print(&name[..n]);
-    print(b"\n");
     let mut file = file_buffer();
     let count = read_argument(k, &mut file);
     print_listing(&file[..count]);
 }
 
-fn main() {
-    let mut copy = [0u8; COPY];
-    read_argument(1, &mut copy);
-    let mut text = io::large_buffer();
-    let n = io::read_full(STDIN_FILENO, &mut text);
-    print_all_damaged(copy, &text[..n]);
-    let mut packed = file_buffer();
-    let length = read_argument(2, &mut packed);
-    print_all_packed(&packed[..length]);
+// The files that the arguments name from the second on
+fn print_files() {
     let count = os::arg_count();
-    let mut k: usize = 3;
+    let mut k: usize = 2;
     while k < count {
         print_file(k);
         k += 1;
     }
+}
+
+fn main() {
+    let mut judged = io::large_buffer();
+    let n = io::read_full(STDIN_FILENO, &mut judged);
+    print_all_packed(&judged[..n], false);
+    let mut inspected = file_buffer();
+    let length = read_argument(1, &mut inspected);
+    print_all_packed(&inspected[..length], true);
+    print_files();
 }

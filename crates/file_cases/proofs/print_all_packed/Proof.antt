@@ -6,10 +6,10 @@ use Rattle.file_cases.proofs.print_all_packed.Statement.{statement}
 use Rattle.file_cases.proofs.print_all_packed.Tie as tie
 
 abbrev Inv-loop : tie.InvT-loop
-Inv-loop s at₀ at = at ≤ at
+Inv-loop s inspected at₀ at = at ≤ at
 
 abbrev μ-loop : tie.MeasureT-loop
-μ-loop s at₀ at = length s - at
+μ-loop s inspected at₀ at = length s - at
 
 pub print-all-packed-spec : {M : Type 1} → statement M
 print-all-packed-spec =

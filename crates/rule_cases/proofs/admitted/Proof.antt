@@ -10,4 +10,4 @@ returns c = admit-keeps _ _ _ (c .before .before .admit .result) (c .before .bef
 pub admitted-spec : {M : Type 1} → statement M
 admitted-spec =
     tie.close
-    (tie.spec (λ c κs. search needs) (λ c κs. search needs) (λ c κs. search needs) (λ c κs. search needs) returns)
+    (tie.spec (λ c κs. search needs) (λ c κs. search needs) (λ c κs. search needs) (λ c κs. search needs) (λ c κs. search needs) (λ c κs. search needs) (λ c κs. search needs) returns)
