@@ -11,9 +11,10 @@ use Rattle.basis.specs.Atoms.{Proper}
 use Rattle.basis.specs.Limits.{mostAtoms, mostLiterals, mostVariables}
 use Rattle.basis.specs.declared.Atom.{Atom}
 use Rattle.basis.specs.declared.Literal.{Literal}
-use Rattle.lists.proofs.Counting.{indexOf-keepIf, indexOf-lt, upFrom-length, upFrom-mem, upFrom-out}
+use Rattle.lists.proofs.Counting.{indexOf-keepIf, indexOf-lt, upFrom-mem, upFrom-out}
 use Rattle.lists.proofs.Members.{anyOf-in, anyOf-out, getD-mem, keepIf-in, keepIf-out, keepIf-sat, keepIf-short, map-drop, map-take, pairUp-mem, pairUp-parts, without-out, without-short}
 use Rattle.lists.proofs.Tests.{F→eq, Said, T→eq, and-l, and-r, fails, holds, or-l, or-r, said}
+use Rattle.lists.proofs.Walks.{upFrom-length}
 use Rattle.lists.specs.Lists.{anyOf, indexOf, keepIf, pairUp, upFrom, without}
 use Rattle.calculus.specs.Class.{Bounded, DifferencesBounded, InClass, Limited, Occurs, ProperLiteral, arityOf, withinLimits}
 use Rattle.calculus.specs.Clauses.{Clause, Instanced, arguments, complement, ground, noLiteral, renameAtom, renameLiteral, sameLiteral, under}

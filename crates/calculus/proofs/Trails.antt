@@ -160,11 +160,6 @@ pushed (b ∷ az) t {a} m = go (λ u h. pushed az u h) (List·Memᴰ·cases-cons
     go ih (inl e) (holds h) = atoms-push az u (rw (T→eq (atomOnTrail b t) h) (Memᴰ·cast e (on-mem b t h)))
     go ih (inl e) (fails h) = atoms-push az u (rw (F→eq (atomOnTrail b t) h) (Memᴰ·append-right (atomsOf t) (List·Memᴰ·head e)))
 
-abbrev litOf : Literal → Trail → Literal
-litOf d [] = d
-litOf d (foreground l m ∷ t) = l
-litOf d (background a ∷ t) = d
-
 module _ (nums : Numbers) (cs : List Clause) (n : ℕ) where
   pub below : {t₀ : Trail} {l : Literal} {m : Origin} {t : Trail} → Built nums cs n t₀ → Tail (foreground l m ∷ t) t₀ → Below nums cs n t l m t₀
   below {l} {m} {t} (empty e) h = absurd (tail-none (subst (Tail (foreground l m ∷ t)) e h))

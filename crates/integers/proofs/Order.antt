@@ -46,9 +46,6 @@ pub shifted-holds : (x y z c : ℤ) → x ≤ℤ (c +ℤ y) → ((x -ℤ z) -ℤ
 shifted-holds x y z c h = →le ((x -ℤ z) -ℤ (y -ℤ z)) c
     (omega (arith, le→ h, sum c y, sum x (negℤ z), sum y (negℤ z), negated (y -ℤ z), sum (x -ℤ z) (negℤ (y -ℤ z))))
 
--- Ranges of a sum, and a wider range.
+-- The range of a sum
 pub within-sum : {m n : ℕ} {x y : ℤ} → Within m x → Within n y → Within (m + n) (x +ℤ y)
 within-sum {x = x} {y = y} W U = record { above = omega (arith, sum x y); below = omega (arith, sum x y) }
-
-pub wider : {m n : ℕ} {z : ℤ} → Within m z → m ≤ n → Within n z
-wider W h = record { above = omega arith; below = omega arith }

@@ -70,7 +70,3 @@ indexOf-keepIf f a (suc n) j h = go (λ j h. indexOf-keepIf f (suc a) n j h) (f 
     go ih false j h = ih j h
     go ih true zero h = rw (T→eq (eqb a a) (eqb-refl a)) refl
     go ih true (suc j) h = let lt : j < length R = omega arith in miss (getD R j zero) j (far j lt) (said (eqb (getD R j zero) a)) (ih j lt)
-
-pub upFrom-length : (a n : ℕ) → length (upFrom a n) ≡ n
-upFrom-length a zero = refl
-upFrom-length a (suc n) = ap suc (upFrom-length (suc a) n)

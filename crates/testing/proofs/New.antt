@@ -119,17 +119,10 @@ pub pushed-length : (az : List Atom) (t : Trail) → length (pushedAtoms az t) �
 pushed-length [] t = omega arith
 pushed-length (a ∷ az) t = omega (arith, pushed-length az (background a ∷ t))
 
-pub append-length : (az : List Atom) (t : Trail) → length (appendAtoms az t) ≡ length t + length (newAtoms (atomsOf t) az)
-append-length az t = ap length (append-new az t) ∙ pushed-length (newAtoms (atomsOf t) az) t
-
 -- What Propagate and Backtrack name: the literal, and then the new atoms
 pub propagated-new : (C : Clause) (i : ℕ) (τ : List ℕ) (o : Origin) (t : Trail)
     → propagatedTrail C i τ o t ≡ pushedAtoms (newAtoms (atomsOf t) (groundAtoms τ (C .atoms))) (foreground (ground τ (getD (C .literals) i noLiteral)) o ∷ t)
 propagated-new C i τ o t = append-new (groundAtoms τ (C .atoms)) (foreground (ground τ (getD (C .literals) i noLiteral)) o ∷ t)
-
-pub propagated-length : (C : Clause) (i : ℕ) (τ : List ℕ) (o : Origin) (t : Trail)
-    → length (propagatedTrail C i τ o t) ≡ suc (length t) + length (newAtoms (atomsOf t) (groundAtoms τ (C .atoms)))
-propagated-length C i τ o t = append-length (groundAtoms τ (C .atoms)) (foreground (ground τ (getD (C .literals) i noLiteral)) o ∷ t)
 
 -- ---- stored
 

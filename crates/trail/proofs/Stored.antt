@@ -26,15 +26,6 @@ entry-says (background a) h = refl
 entry-says (foreground l (propagated c n τ)) h = ap (λ k. foreground l (propagated c n k)) (take-exactly 0 mostVariables τ h)
 entry-says (foreground l (decided c n b τ)) h = ap (λ k. foreground l (decided c n b k)) (take-exactly 0 mostVariables τ h)
 
--- The first constants of an array of twelve are at most twelve.
-few-constants : (n : ℕ) (τ : List ℕ) → length (take n (exactly mostVariables 0 τ)) ≤ mostVariables
-few-constants n τ = omega (arith, length-take n (exactly mostVariables 0 τ), exactly-length 0 mostVariables τ)
-
-record-short : (e : calculus.Entry) → Short (entryOf (packedEntry e))
-record-short (background a) = tt
-record-short (foreground l (propagated c n τ)) = few-constants (length τ) τ
-record-short (foreground l (decided c n b τ)) = few-constants (length τ) τ
-
 -- ---- the array
 
 -- A slot at or past the length is not seen.
@@ -117,22 +108,6 @@ packed-stored [] h s = stored-none
 packed-stored (x ∷ t) h s =
     subst (λ a. Stored a (suc (length t)) (x ∷ t)) (packed-push x t h) (stored-push (packed-stored t (omega arith) (s .1)) h x (s .0))
 
--- Every entry of a stored trail is short.
-slot-short : (l : Trail) (k : ℕ) → k < length l → Short (entryOf (getD (map packedEntry l) k pastEnd))
-slot-short [] k h = absurd (omega arith)
-slot-short (x ∷ l) zero h = record-short x
-slot-short (x ∷ l) (suc k) h = slot-short l k (omega arith)
-
-entry-short : (t : Trail) (k : ℕ) → k < mostEntries → Short (entryOf (getD (packedTrail t) k pastEnd))
-unfolding packedTrail
-entry-short t k h =
-    subst (λ a. Short (entryOf (getD a k pastEnd))) (map-exactly (background noAtom) packedEntry mostEntries (reverse t))
-    (slot-short (exactly mostEntries (background noAtom) (reverse t)) k (omega (arith, exactly-length (background noAtom) mostEntries (reverse t))))
-
-pub own-short : (es : List Entry) (n k : ℕ) → OwnTrail es n → k ≤ n → AllShort (trailOf es k)
-own-short es n zero H h = tt
-own-short es n (suc k) H h = (subst (λ a. Short (entryOf (getD a k pastEnd))) (sym (H .packed)) (entry-short (trailOf es n) k (omega (arith, H .few))), own-short es n k H (omega arith))
-
 -- ---- the trail cut
 
 -- What is kept of a trail are its first entries.
@@ -155,7 +130,3 @@ cut-short i (e ∷ t) = go (leb (decisions (e ∷ t)) i) (cut-short i t)
 
 pub kept-few : (es : List Entry) (i n : ℕ) → length (cut i (trailOf es n)) ≤ n
 kept-few es i n = omega (arith, cut-short i (trailOf es n), trail-length es n)
-
--- Entries of ts taken away from the end down to those kept: the trail cut
-pub stored-cut : {es : List Entry} {k : ℕ} (ts : List Entry) (i n : ℕ) → k ≡ length (cut i (trailOf ts n)) → Stored es k (trailOf ts k) → Stored es k (cut i (trailOf ts n))
-stored-cut {es} {k} ts i n e S = subst (Stored es k) (ap (trailOf ts) e ∙ cut-first ts i n) S
