@@ -155,7 +155,7 @@ module _ {r : Run} {s : State} (R : RunOf r s) (k : Looked) (c l count : ℕ) (�
 
   module _ (handed : k ≡ lookedAt s (Propagate c l (exactly count 0 ι))) (a : Bool)
       (a-is : a ≡ (leb count mostVariables && (between 1 (r .input + r .learned) c && (literalExists (clauseOf (k .clause)) l && instanceFits (r .constants) (clauseOf (k .clause)) (take count ι)))))
-      (m : Literal) (m-is : m ≡ ground (take count ι) (getD (clauseOf (k .clause) .literals) (l - 1) noLiteral)) (v : LiteralsSeen) (v-is : v ≡ literalsSeen (trailOf (r .trail) (r .length)) (clauseOf (k .clause)) (take count ι) m)
+      (m : Literal) (m-is : m ≡ ground (take count ι) (getD (clauseOf (k .clause) .literals) (l - 1) noLiteral)) (v : LiteralsSeen) (v-is : v ≡ literalsSeen (trailOf (r .trail) (r .length)) (clauseOf (k .clause)) (take count ι) true m)
       (w : Tested) (G : Gathers w (atomsOf (trailOf (r .trail) (r .length))) (groundAtoms (take count ι) (clauseOf (k .clause) .atoms))) (b : Bool) (d : SaysPossible (r .constants) (testedAtoms w) b)
       (f : NewAtoms) (f-is : f ≡ packedNew (newAtoms (knownAtoms w) (stepAtoms w))) {n n₁ n₂ n₃ n₄ n₅ n₆ : ℕ}
       (e₆ : n₆ ≡ cond (ltb (r .length + f .count) mostEntries) 0 noRoom) (e₅ : n₅ ≡ cond b n₆ notPossible) (e₄ : n₄ ≡ cond (eqb (v .first) 0) n₅ notFalse) (e₃ : n₃ ≡ cond (v .free) n₄ alreadyDefined)

@@ -68,7 +68,6 @@ use trail::background_entry;
 use trail::blank_entry;
 use trail::decided_entry;
 use trail::empty_trail;
-use trail::first_not_false;
 use trail::is_decision;
 use trail::levels;
 use trail::literals_seen;
@@ -356,7 +355,7 @@ impl Run {
         let g = literal_instance(clause, l, instance, count);
         let trail = self.trail;
         let m = self.length as usize;
-        let seen = literals_seen(trail, self.length, clause, instance, count, g);
+        let seen = literals_seen(trail, self.length, clause, instance, count, true, g);
         let tested = gathered(trail, self.length, clause, instance, count);
         let together = possible(self.constants, tested);
         let fresh = new_atoms(tested);
@@ -485,7 +484,8 @@ impl Run {
         );
         let trail = self.trail;
         let none = no_literal();
-        let first = first_not_false(trail, self.length, clause, instance, count, false, none);
+        let seen = literals_seen(trail, self.length, clause, instance, count, false, none);
+        let first = seen.first;
         let tested = gathered(trail, self.length, clause, instance, count);
         let together = possible(self.constants, tested);
         let number = refusal(

@@ -62,7 +62,11 @@ pub fn gathered(
     let n = length as usize;
     let own = atoms_of(clause);
     let blank = no_atom();
-    let mut atoms = [blank; MOST_TESTED];
+    let mut tested = Tested {
+        known: 0,
+        count: 0,
+        atoms: [blank; MOST_TESTED],
+    };
     let mut m = 0;
     let mut left = n;
     while 0 < left {
@@ -70,24 +74,20 @@ pub fn gathered(
         left -= 1;
         if is_background(e) {
             let a = e.atom;
-            atoms[m] = a;
+            tested.atoms[m] = a;
             m += 1;
         }
     }
-    let known = m as u8;
+    tested.known = m as u8;
     let mut j = 0;
     while j < own {
         let b = clause.atoms[j];
-        atoms[m] = ground_atom(b, instance, count);
+        tested.atoms[m] = ground_atom(b, instance, count);
         m += 1;
         j += 1;
     }
-    let all = m as u8;
-    Tested {
-        known: known,
-        count: all,
-        atoms: atoms,
-    }
+    tested.count = m as u8;
+    tested
 }
 
 // Whether the atoms are such as the constraint test takes, and together possible

@@ -1,7 +1,7 @@
 -- What a walk over a trail or over literals knows at its next turn and at its end.
 use mathlib.Core.Path.{_∙_, _≡_, ap, ap₂, refl, subst}
 use mathlib.Core.List.{List, [], _∷_}
-use mathlib.Core.Bool.{Bool, _||_, cond, false, true}
+use mathlib.Core.Bool.{Bool, _||_, cond, false, not, true}
 use Prim.Native.Nat.{_+_, _<_, _≤_, max, suc, zero, ℕ}
 use native.Mathlib.Decide.{decLt}
 use native.Mathlib.Nat.{max-eq-left, max-eq-right, max-le}
@@ -18,7 +18,7 @@ use Rattle.trail.specs.declared.Entry.{Entry}
 use Rattle.calculus.proofs.Levels.{decisions-more, level-le}
 use Rattle.calculus.specs.Clauses.{complement}
 use Rattle.calculus.specs.Trails as calculus
-use Rattle.calculus.specs.Trails.{Trail, cut, decisions, isDecision, isLiteral, largestLevel, levelOf, onTrail}
+use Rattle.calculus.specs.Trails.{Trail, cut, decisions, isDecision, isLiteral, largestLevel, levelOf, onTrail, undefined}
 
 pub trail-length : (es : List Entry) (n : ℕ) → length (trailOf es n) ≡ n
 trail-length es zero = refl
@@ -41,7 +41,7 @@ module _ (p : calculus.Entry → Bool) (es : List Entry) where
       here : k ≡ n → anyOf p (trailOf es (suc n)) ≡ true
       here q = ap (λ b. b || anyOf p (trailOf es n)) (subst (λ j. p (entryOf (getD es j pastEnd)) ≡ true) q e)
 
-pub either-on : (l : Literal) (t : Trail) → (onTrail l t || onTrail (complement l) t) ≡ anyOf (isAbout l) t
+either-on : (l : Literal) (t : Trail) → (onTrail l t || onTrail (complement l) t) ≡ anyOf (isAbout l) t
 either-on l [] = refl
 either-on l (e ∷ t) = go (isLiteral l e) (isLiteral (complement l) e) (onTrail l t) (onTrail (complement l) t) ∙ ap (λ b. isAbout l e || b) (either-on l t)
   where
@@ -50,6 +50,14 @@ either-on l (e ∷ t) = go (isLiteral l e) (isLiteral (complement l) e) (onTrail
     go false true true d = refl
     go false true false d = refl
     go false false c d = refl
+
+-- A literal is undefined where the walk came to the trail's end, and not where it came to an entry about the literal.
+module _ (l : Literal) (es : List Entry) (k n : ℕ) where
+  pub none-about : k ≡ n → anyOf (isAbout l) (trailOf es k) ≡ false → undefined (trailOf es n) l ≡ true
+  none-about q h = ap not (either-on l (trailOf es n) ∙ rw q at h)
+
+  pub one-about : k < n → isAbout l (entryOf (getD es k pastEnd)) ≡ true → undefined (trailOf es n) l ≡ false
+  one-about h e = ap not (either-on l (trailOf es n) ∙ any-found (isAbout l) es k n h e)
 
 -- ---- levels
 

@@ -1,6 +1,6 @@
 -- What the functions answer: the walk of refusal 12, and levels.
 use mathlib.Core.List.{List}
-use mathlib.Core.Bool.{Bool, true, _&&_, _||_, cond}
+use mathlib.Core.Bool.{Bool, _&&_, _||_, cond}
 use Prim.Native.Nat.{ℕ, zero}
 use lib.ListN.{length}
 use Rattle.basis.specs.declared.Literal.{Literal}
@@ -26,9 +26,9 @@ passes others own t τ m = others && sameLiteral (ground τ m) own || isFalse t 
 abbrev pub firstNumber : (Literal → Bool) → List Literal → ℕ
 firstNumber f ls = cond (allOf f ls) zero (firstFailing f ls)
 
--- What Propagate asks of a trail: whether g is undefined, and the number of the first literal with another instance that is not false
-abbrev pub literalsSeen : Trail → Clause → List ℕ → Literal → LiteralsSeen
-literalsSeen t C τ g = record { free = undefined t g; first = firstNumber (passes true g t τ) (C .literals) }
+-- What Propagate and Conflict ask of a trail: whether g is undefined, and the number of the first literal that must be false and is not
+abbrev pub literalsSeen : Trail → Clause → List ℕ → Bool → Literal → LiteralsSeen
+literalsSeen t C τ others g = record { free = undefined t g; first = firstNumber (passes others g t τ) (C .literals) }
 
 -- ---- levels
 

@@ -13,7 +13,7 @@ ghost use Rattle.calculus.specs.Trails.{isLiteral, isDecision, foreground, back
 ghost use Rattle.calculus.specs.Trails as trails;
 ghost use Rattle.clauses.specs.Records.{clauseOf, instancedOf};
 ghost use Rattle.trail.specs.Entries.{blankEntry, entryOf, trailOf, packedTrail, Recorded};
-ghost use Rattle.trail.specs.Answers.{isAbout, passes, firstNumber, literalsSeen, levelsSeen};
+ghost use Rattle.trail.specs.Answers.{isAbout, literalsSeen, levelsSeen};
 use basis::Atom;
 use basis::Literal;
 use basis::MOST_ENTRIES;
@@ -55,7 +55,7 @@ pub struct Entry {
     pub instance: [u8; MOST_VARIABLES],
 }
 
-// What Propagate asks of a trail: whether the literal's own instance is undefined, and refusal 12's number
+// What Propagate and Conflict ask of a trail: whether a literal is undefined, and refusal 12's number
 pub struct LiteralsSeen {
     pub free: bool,
     pub first: u8,
@@ -164,9 +164,9 @@ fn is_own(others: bool, g: Literal, own: Literal) -> bool
     false
 }
 
-// The number, from 1, of the first literal that must be false and is not; 0 where there is none. All must be false, or, where `others`,
-// those with another instance than `own`.
-pub fn first_not_false(
+// Whether `own` is undefined; and the number, from 1, of the first literal that must be false and is not, 0 where there is none. All must be
+// false, or, where `others`, those with another instance than `own`.
+pub fn literals_seen(
     trail: [Entry; MOST_ENTRIES],
     length: u8,
     clause: Clause,
@@ -174,11 +174,20 @@ pub fn first_not_false(
     count: u8,
     others: bool,
     own: Literal,
-) -> u8
+) -> LiteralsSeen
     requires { ⌜ length ≤ mostEntries ⌝ }
-    ensures { λ r. ⌜ r ≡ firstNumber (passes others own (trailOf trail length) (take count instance)) (clauseOf clause .literals) ⌝ }
+    ensures { λ r. ⌜ r ≡ literalsSeen (trailOf trail length) (clauseOf clause) (take count instance) others own ⌝ }
 {
     let n = length as usize;
+    let mut i = 0;
+    'own: while i < n {
+        let e = trail[i];
+        if is_about(e, own) {
+            break 'own;
+        }
+        i += 1;
+    }
+    let free = i == n;
     let m = literals_of(clause);
     let mut j = 0;
     'literals: while j < m {
@@ -201,28 +210,14 @@ pub fn first_not_false(
         break 'literals;
     }
     if j < m {
-        return (j + 1) as u8;
+        return LiteralsSeen {
+            free: free,
+            first: (j + 1) as u8,
+        };
     }
-    0
-}
-
-// Whether a ground literal is undefined, and the number of the first literal with another instance that is not false
-pub fn literals_seen(
-    trail: [Entry; MOST_ENTRIES],
-    length: u8,
-    clause: Clause,
-    instance: [u8; MOST_VARIABLES],
-    count: u8,
-    own: Literal,
-) -> LiteralsSeen
-    requires { ⌜ length ≤ mostEntries ⌝ }
-    ensures { λ r. ⌜ r ≡ literalsSeen (trailOf trail length) (clauseOf clause) (take count instance) own ⌝ }
-{
-    let free = undefined(trail, length, own);
-    let first = first_not_false(trail, length, clause, instance, count, true, own);
     LiteralsSeen {
         free: free,
-        first: first,
+        first: 0,
     }
 }
 

@@ -1,5 +1,5 @@
 -- Of the entries passed the atoms are gathered; then, of the clause's atoms passed, the instances behind them.
-use mathlib.Core.Path.{_≡_, _∙_, ap, sym}
+use mathlib.Core.Path.{_≡_, _∙_, ap, refl, sym}
 use mathlib.Core.List.{[], _∷_, _++_}
 use Prim.Native.Nat.{_+_, _≤_, _-_}
 use native.Mathlib.Omega.{arith}
@@ -19,20 +19,20 @@ use Rattle.testing.proofs.gathered.Statement.{statement}
 use Rattle.testing.proofs.gathered.Tie as tie
 
 abbrev Inv-loop : tie.InvT-loop
-Inv-loop len instance count trail clause n own atoms₀ m₀ left₀ atoms m left =
+Inv-loop len instance count trail clause n own tested₀ m₀ left₀ tested m left =
     (left ≤ n) × (n ≤ mostEntries) × (m + left ≤ n) × (m ≡ length (atomsOf (trailOf trail (n - left)))) ×
-    (atoms ≡ exactly mostTested noAtom (atomsOf (trailOf trail (n - left))))
+    (tested .atoms ≡ exactly mostTested noAtom (atomsOf (trailOf trail (n - left))))
 
 abbrev μ-loop : tie.MeasureT-loop
-μ-loop len instance count trail clause n own atoms₀ m₀ left₀ atoms m left = left
+μ-loop len instance count trail clause n own tested₀ m₀ left₀ tested m left = left
 
 abbrev Inv-loop2 : tie.InvT-loop2
-Inv-loop2 len instance count clause n own atoms₀ m₀ left known j₀ atoms m j =
-    (j ≤ own) × (m ≤ m₀ + j) × (m ≡ length (take m₀ atoms₀ ++ groundAtoms (take count instance) (take j (clause .atoms)))) ×
-    (atoms ≡ exactly mostTested noAtom (take m₀ atoms₀ ++ groundAtoms (take count instance) (take j (clause .atoms))))
+Inv-loop2 len instance count clause n own tested₀ m₀ left j₀ tested m j =
+    (j ≤ own) × (m ≤ m₀ + j) × (m ≡ length (take m₀ (tested₀ .atoms) ++ groundAtoms (take count instance) (take j (clause .atoms)))) ×
+    (tested .atoms ≡ exactly mostTested noAtom (take m₀ (tested₀ .atoms) ++ groundAtoms (take count instance) (take j (clause .atoms)))) × (tested .known ≡ m₀)
 
 abbrev μ-loop2 : tie.MeasureT-loop2
-μ-loop2 len instance count clause n own atoms₀ m₀ left known j₀ atoms m j = own - j
+μ-loop2 len instance count clause n own tested₀ m₀ left j₀ tested m j = own - j
 
 loop-holds : tie.Need-loop-holds Inv-loop μ-loop Inv-loop2 μ-loop2
 loop-holds c =
@@ -51,7 +51,7 @@ loop-again c =
     let k = args .length - loop .left in
     let next : args .length - (loop .left - 1) ≡ k + 1 = omega arith in
     let t =
-    stored-more noAtom mostTested (loop .m) (loop .atoms) (atomsOf (trailOf (args .t1) k)) _ _ (loop .inv .3) (loop .inv .4) (omega arith)
+    stored-more noAtom mostTested (loop .m) (loop .tested .atoms) (atomsOf (trailOf (args .t1) k)) _ _ (loop .inv .3) (loop .inv .4) (omega arith)
     (atoms-turn (args .t1) k (sym (c .before .before .is-background .ensures) ∙ c .before .if1 .taken)) in
     rw next (omega arith, search needs, omega arith, t .0, t .1)
 
@@ -67,11 +67,11 @@ loop-again-2 c =
 loop2-holds : tie.Need-loop2-holds Inv-loop μ-loop Inv-loop2 μ-loop2
 loop2-holds c =
     let loop = c .before .loop in
-    let e = gathered-first (loop .m) (loop .atoms) _ (loop .inv .3) (loop .inv .4) (omega arith) in
-    (omega arith, omega arith, loop .inv .3 ∙ ap length (sym e), loop .inv .4 ∙ ap (exactly mostTested noAtom) (sym e))
+    let e = gathered-first (loop .m) (loop .tested .atoms) _ (loop .inv .3) (loop .inv .4) (omega arith) in
+    (omega arith, omega arith, loop .inv .3 ∙ ap length (sym e), loop .inv .4 ∙ ap (exactly mostTested noAtom) (sym e), refl)
 
-array-set-from-atoms-2 : tie.Need-array-set-from-atoms-2 Inv-loop μ-loop Inv-loop2 μ-loop2
-array-set-from-atoms-2 c = omega (arith, c .before .before .before .before .before .before .before .atoms-of .ensures .few)
+element-set-from-tested : tie.Need-element-set-from-tested Inv-loop μ-loop Inv-loop2 μ-loop2
+element-set-from-tested c = omega (arith, c .before .before .before .before .before .before .before .atoms-of .ensures .few)
 
 loop2-again : tie.Need-loop2-again Inv-loop μ-loop Inv-loop2 μ-loop2
 loop2-again c =
@@ -80,15 +80,15 @@ loop2-again c =
     let first = c .before .before .before .before .before .loop in
     let loop = c .before .before .before .loop2 in
     let τ = take (args .count) (args .instance) in
-    let xs = take (first .m) (first .atoms) ++ groundAtoms τ (take (loop .j) (args .t3 .atoms)) in
+    let xs = take (first .m) (first .tested .atoms) ++ groundAtoms τ (take (loop .j) (args .t3 .atoms)) in
     let more =
-    atoms-more (renameAtom (under τ)) (args .t3 .atoms) (loop .j) noAtom (take (first .m) (first .atoms)) (omega (arith, own .few, own .long))
+    atoms-more (renameAtom (under τ)) (args .t3 .atoms) (loop .j) noAtom (take (first .m) (first .tested .atoms)) (omega (arith, own .few, own .long))
     ∙ ap (λ a. xs ++ (a ∷ [])) (sym (c .ground-atom .ensures)) in
-    let t = stored-more noAtom mostTested (loop .m) (loop .atoms) xs _ _ (loop .inv .2) (loop .inv .3) (omega (arith, own .few)) more in
-    (omega arith, omega arith, t .0, t .1)
+    let t = stored-more noAtom mostTested (loop .m) (loop .tested .atoms) xs _ _ (loop .inv .2) (loop .inv .3) (omega (arith, own .few)) more in
+    (omega arith, omega arith, t .0, t .1, loop .inv .4)
 
-cast-all : tie.Need-cast-all Inv-loop μ-loop Inv-loop2 μ-loop2
-cast-all c = omega (arith, c .before .before .before .before .before .atoms-of .ensures .few)
+cast-tested-2 : tie.Need-cast-tested-2 Inv-loop μ-loop Inv-loop2 μ-loop2
+cast-tested-2 c = omega (arith, c .before .before .before .before .before .atoms-of .ensures .few)
 
 returns : tie.Need-returns Inv-loop μ-loop Inv-loop2 μ-loop2
 returns c =
@@ -102,11 +102,12 @@ returns c =
     let ts = atomsOf (trailOf (args .t1) (args .length)) in
     let az = groundAtoms τ (take (args .t3 .atomcount) (args .t3 .atoms)) in
     let same : groundAtoms τ (take (loop .j) (args .t3 .atoms)) ≡ az = ap (groundAtoms τ) (ap (λ k. take k (args .t3 .atoms)) all ∙ own .ensures .same) in
-    gathered-all (first .inv .3 ∙ ap (λ k. length (atomsOf (trailOf (args .t1) k))) passed)
+    rw (loop .inv .4)
+    (gathered-all (first .inv .3 ∙ ap (λ k. length (atomsOf (trailOf (args .t1) k))) passed)
     (first .inv .4 ∙ ap (λ k. exactly mostTested noAtom (atomsOf (trailOf (args .t1) k))) passed) (omega (arith, atoms-few (args .t1) (args .length)))
     (omega (arith, length-map (take (args .t3 .atomcount) (args .t3 .atoms)) (renameAtom (under τ)), counted-length (own .ensures), own .ensures .few))
-    (loop .inv .2 ∙ ap (λ r. length (take (first .m) (first .atoms) ++ r)) same)
-    (loop .inv .3 ∙ ap (λ r. exactly mostTested noAtom (take (first .m) (first .atoms) ++ r)) same)
+    (loop .inv .2 ∙ ap (λ r. length (take (first .m) (first .tested .atoms) ++ r)) same)
+    (loop .inv .3 ∙ ap (λ r. exactly mostTested noAtom (take (first .m) (first .tested .atoms) ++ r)) same))
 
 pub gathered-spec : {M : Type 1} → statement M
 gathered-spec =
@@ -137,10 +138,10 @@ gathered-spec =
     (λ c. search needs)
     (λ c κs. search needs)
     (λ c. search needs)
-    array-set-from-atoms-2
+    element-set-from-tested
     (λ c. search needs)
     (λ c. search needs)
     (λ c. search needs)
     loop2-again
-    cast-all
+    cast-tested-2
     returns)

@@ -1,6 +1,6 @@
 -- None of the entries passed is the literal or its complement.
-use mathlib.Core.Path.{_≡_, refl, sym, _∙_, ap}
-use mathlib.Core.Bool.{false, not}
+use mathlib.Core.Path.{_≡_, refl, sym, _∙_}
+use mathlib.Core.Bool.{false}
 use Prim.Native.Nat.{_≤_, _-_}
 use native.Mathlib.Omega.{arith}
 use borrow.Author.Needs.{needs}
@@ -8,7 +8,7 @@ use Rattle.basis.specs.Limits.{mostEntries}
 use Rattle.lists.specs.Lists.{anyOf}
 use Rattle.trail.specs.Answers.{isAbout}
 use Rattle.trail.specs.Entries.{trailOf}
-use Rattle.trail.proofs.Walks.{any-more, any-found, either-on}
+use Rattle.trail.proofs.Walks.{any-more, none-about, one-about}
 use Rattle.trail.proofs.undefined.Statement.{statement}
 use Rattle.trail.proofs.undefined.Tie as tie
 
@@ -25,10 +25,8 @@ returns : tie.Need-returns Inv-loop μ-loop
 returns c =
     let args = c .before .before .before .before .before .args in
     sym
-    (ap not
-    (either-on (args .l) (trailOf (args .t1) (args .length))
-    ∙ any-found (isAbout (args .l)) (args .t1) (c .before .before .before .before .loop .k) (args .length) (omega arith)
-    (sym (c .before .is-about .ensures) ∙ c .if1 .taken)))
+    (one-about (args .l) (args .t1) (c .before .before .before .before .loop .k) (args .length) (omega arith)
+    (sym (c .before .is-about .ensures) ∙ c .if1 .taken))
 
 loop-again : tie.Need-loop-again Inv-loop μ-loop
 loop-again c =
@@ -40,8 +38,7 @@ returns-2 : tie.Need-returns-2 Inv-loop μ-loop
 returns-2 c =
     let args = c .before .before .args in
     let loop = c .before .loop in
-    let e : loop .k ≡ args .length = omega arith in
-    sym (ap not (either-on (args .l) (trailOf (args .t1) (args .length)) ∙ rw e at (loop .inv .2)))
+    sym (none-about (args .l) (args .t1) (loop .k) (args .length) (omega arith) (loop .inv .2))
 
 pub undefined-spec : {M : Type 1} → statement M
 undefined-spec =

@@ -1,3 +1,4 @@
+use mathlib.Core.Path.{ap}
 use Rattle.rules.proofs.Runs.{kept-small}
 use Rattle.testing.proofs.Atoms.{in-room}
 use Rattle.rules.proofs.Conflicting.{conflict-refused, conflict-told}
@@ -13,13 +14,13 @@ use Rattle.rules.proofs.refusal.Reads as refusal-reads
 use Rattle.rules.proofs.refused_at.Reads as refused-at-reads
 use Rattle.testing.proofs.gathered.Reads as gathered-reads
 use Rattle.testing.proofs.possible.Reads as possible-reads
-use Rattle.trail.proofs.first_not_false.Reads as first-not-false-reads
+use Rattle.trail.specs.declared.LiteralsSeen.{LiteralsSeen}
 
 instance-named-requires : tie.Need-instance-named-requires
 instance-named-requires c κs = let h = kept-small (c .before .pre .0, c .before .pre .1) in (h .few-input, h .few-learned)
 
-first-not-false-requires : tie.Need-first-not-false-requires
-first-not-false-requires c κs = kept-small (c .before .before .before .before .pre .0, c .before .before .before .before .pre .1) .few-entries
+literals-seen-requires : tie.Need-literals-seen-requires
+literals-seen-requires c κs = kept-small (c .before .before .before .before .pre .0, c .before .before .before .before .pre .1) .few-entries
 
 gathered-requires : tie.Need-gathered-requires
 gathered-requires c κs = kept-small (c .before .before .before .before .before .pre .0, c .before .before .before .before .before .pre .1) .few-entries
@@ -37,11 +38,11 @@ returns c =
     let at-refusal = at-refusal2 .before in
     let at-possible = at-refusal .before .before in
     let at-gathered = at-possible .before in
-    let at-first-not-false = at-gathered .before in
-    let at-no-literal = at-first-not-false .before in
+    let at-literals-seen = at-gathered .before in
+    let at-no-literal = at-literals-seen .before in
     let at-instance-named = at-no-literal .before .before in
     let first = at-instance-named .before .before in
-    rw (c .refused-at .ensures) (λ s R looks. conflict-refused R (first .args .looked) _ _ (first .args .instance) (let g = first .good .1 .1 .1 .0 in search needs) looks _ (at-instance-named .instance-named .ensures) (at-no-literal .no-literal .result) _ (at-first-not-false .first-not-false .ensures) _ (at-gathered .gathered .ensures) (at-possible .possible .result) (at-possible .possible .ensures)
+    rw (c .refused-at .ensures) (λ s R looks. conflict-refused R (first .args .looked) _ _ (first .args .instance) (let g = first .good .1 .1 .1 .0 in search needs) looks _ (at-instance-named .instance-named .ensures) (at-no-literal .no-literal .result) _ (ap (λ (u : LiteralsSeen). u .first) (at-literals-seen .literals-seen .ensures)) _ (at-gathered .gathered .ensures) (at-possible .possible .result) (at-possible .possible .ensures)
     (at-refusal .refusal .ensures) (at-refusal2 .refusal2 .ensures) (at-refusal3 .refusal3 .ensures) (at-refusal4 .refusal4 .ensures) (at-refusal5 .refusal5 .ensures) (at-if1 .if1 .taken))
 
 returns-2 : tie.Need-returns-2
@@ -54,11 +55,11 @@ returns-2 c =
     let at-refusal = at-refusal2 .before in
     let at-possible = at-refusal .before .before in
     let at-gathered = at-possible .before in
-    let at-first-not-false = at-gathered .before in
-    let at-no-literal = at-first-not-false .before in
+    let at-literals-seen = at-gathered .before in
+    let at-no-literal = at-literals-seen .before in
     let at-instance-named = at-no-literal .before .before in
     let first = at-instance-named .before .before in
-    λ s R looks. conflict-told R (first .args .looked) _ _ (first .args .instance) (let g = first .good .1 .1 .1 .0 in search needs) looks _ (at-instance-named .instance-named .ensures) (at-no-literal .no-literal .result) _ (at-first-not-false .first-not-false .ensures) _ (at-gathered .gathered .ensures) (at-possible .possible .result) (at-possible .possible .ensures)
+    λ s R looks. conflict-told R (first .args .looked) _ _ (first .args .instance) (let g = first .good .1 .1 .1 .0 in search needs) looks _ (at-instance-named .instance-named .ensures) (at-no-literal .no-literal .result) _ (ap (λ (u : LiteralsSeen). u .first) (at-literals-seen .literals-seen .ensures)) _ (at-gathered .gathered .ensures) (at-possible .possible .result) (at-possible .possible .ensures)
     (at-refusal .refusal .ensures) (at-refusal2 .refusal2 .ensures) (at-refusal3 .refusal3 .ensures) (at-refusal4 .refusal4 .ensures) (at-refusal5 .refusal5 .ensures) (at-if1 .if1 .left) _ (c .first-constants .ensures)
 
 pub conflict-spec : {M : Type 1} → statement M
@@ -67,7 +68,7 @@ conflict-spec =
     (tie.spec
     instance-named-requires
     (λ c κs. search needs)
-    first-not-false-requires
+    literals-seen-requires
     gathered-requires
     possible-requires
     (λ c κs. search needs)
