@@ -10,6 +10,7 @@ use Rattle.calculus.specs.States.{State, conflictOf}
 use Rattle.basis.specs.Refusals.{accepted, notFalse}
 use Rattle.calculus.specs.Rules.{Answer, learnsAt}
 use Rattle.clauses.specs.Records.{packedInstanced}
+use Rattle.clauses.specs.declared.Instanced.{Instanced}
 use Rattle.trail.specs.Entries.{packedTrail}
 use Rattle.trail.specs.declared.Kind.{Kind}
 use Rattle.trail.specs.declared.Kind.the-variants.{Background, Propagated, Decided}
@@ -40,6 +41,15 @@ refusedBy r n = record { run = r; number = n; place = 0; learned = 0 }
 
 abbrev pub refusedAt : Run → ℕ → Stepped
 refusedAt r p = record { run = r; number = notFalse; place = p; learned = 0 }
+
+-- Accepted, and n is the conflict that stands
+abbrev pub takenUp : Run → Instanced → Stepped
+takenUp r n = record {
+  run = record { constants = r .constants; input = r .input; learned = r .learned; level = r .level; length = r .length; stands = true; trail = r .trail; conflict = n };
+  number = accepted;
+  place = 0;
+  learned = 0;
+}
 
 -- An entry of this kind is a propagated literal.
 abbrev pub isPropagated : Kind → Bool

@@ -18,7 +18,7 @@ ghost use Rattle.calculus.specs.Trails.{isDecision};
 ghost use Rattle.clauses.specs.Records.{clauseOf, instancedOf};
 ghost use Rattle.trail.specs.Entries.{entryOf};
 ghost use Rattle.merging.specs.Results.{resolved, reasonOf};
-ghost use Rattle.rules.specs.Records.{isPropagated, refusedAt, refusedBy};
+ghost use Rattle.rules.specs.Records.{isPropagated, refusedAt, refusedBy, takenUp};
 ghost use Rattle.rules.specs.Looking.{lookedIn, numberLooked, slotOf};
 ghost use Rattle.rules.specs.Answers.{Kept, Handed, Answers, Answered};
 use basis::ABOVE_LIMIT;
@@ -270,6 +270,21 @@ fn refused_at(run: Run, number: u8, first: u8) -> Stepped
     refused(run, number)
 }
 
+// Accepted: `of` is the conflict that stands.
+fn taken_up(run: Run, of: Instanced) -> Stepped
+    ensures { λ a. ⌜ a ≡ takenUp run of ⌝ }
+{
+    let mut next = run;
+    next.stands = true;
+    next.conflict = of;
+    Stepped {
+        run: next,
+        number: 0,
+        place: 0,
+        learned: 0,
+    }
+}
+
 // ---- what a step looks at
 
 // The slot of the last entry; of the empty trail the first
@@ -469,7 +484,7 @@ impl Run {
 
     // "3 Conflict (clause, instance). No conflict. All literals false; trail and clause atoms together possible. The clause becomes the
     // conflict."
-    pub fn conflict(mut self, looked: Looked, c: u8, instance: Instance, count: u8) -> Stepped
+    pub fn conflict(self, looked: Looked, c: u8, instance: Instance, count: u8) -> Stepped
         requires { ⌜ Handed self looked (Conflict c (exactly count 0 instance)) ⌝ }
         ensures { λ a. ⌜ Answered self looked (Conflict c (exactly count 0 instance)) a ⌝ }
     {
@@ -509,19 +524,12 @@ impl Run {
             clause: clause,
             instance: constants,
         };
-        self.stands = true;
-        self.conflict = of;
-        Stepped {
-            run: self,
-            number: 0,
-            place: 0,
-            learned: 0,
-        }
+        taken_up(self, of)
     }
 
     // "4 Resolve (literal L'). The last entry is a propagated literal, the complement of L'." It looks at the clause of the last entry's step,
     // from which the entry's reason follows.
-    pub fn resolve(mut self, looked: Looked, l: u8) -> Stepped
+    pub fn resolve(self, looked: Looked, l: u8) -> Stepped
         requires { ⌜ Handed self looked (Resolve l) ⌝ }
         ensures { λ a. ⌜ Answered self looked (Resolve l) a ⌝ }
     {
@@ -555,17 +563,11 @@ impl Run {
             return refused(self, number);
         }
         let of = merged.of;
-        self.conflict = of;
-        Stepped {
-            run: self,
-            number: 0,
-            place: 0,
-            learned: 0,
-        }
+        taken_up(self, of)
     }
 
     // "5 Factorize (two different literals with the same instance). Their variables are merged; the one with the larger number goes."
-    pub fn factorize(mut self, i: u8, j: u8) -> Stepped
+    pub fn factorize(self, i: u8, j: u8) -> Stepped
         requires { ⌜ Kept self ⌝ }
         ensures { λ a. ⌜ Answers self (Factorize i j) a ⌝ }
     {
@@ -584,13 +586,7 @@ impl Run {
         }
         let merged = merging::factorize(n, index_of(i), index_of(j));
         let of = merged.of;
-        self.conflict = of;
-        Stepped {
-            run: self,
-            number: 0,
-            place: 0,
-            learned: 0,
-        }
+        taken_up(self, of)
     }
 
     // "6 Skip. The last entry goes, if it is an atom or if its complement is not in the conflict. A decision skipped lowers k by one."
