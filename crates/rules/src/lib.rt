@@ -5,7 +5,7 @@ ghost use mathlib.Core.List.{[], _∷_};
 ghost use mathlib.Core.Bool.{_&&_, cond};
 ghost use Prim.Native.Nat.{_+_, _-_, _≤_, _<_};
 ghost use lib.ListN.{take};
-ghost use Rattle.basis.specs.Limits.{mostVariables, mostInput, mostLearned, mostClauses};
+ghost use Rattle.basis.specs.Limits.{mostAtoms, mostVariables, mostInput, mostLearned, mostClauses, mostEntries};
 ghost use Rattle.basis.specs.Refusals.{notFalse};
 ghost use lib.Dec.{eqb, leb};
 ghost use Rattle.lists.specs.Arrays.{exactly};
@@ -18,7 +18,7 @@ ghost use Rattle.calculus.specs.Trails.{isDecision};
 ghost use Rattle.clauses.specs.Records.{clauseOf, instancedOf};
 ghost use Rattle.trail.specs.Entries.{entryOf};
 ghost use Rattle.merging.specs.Results.{resolved, reasonOf};
-ghost use Rattle.rules.specs.Records.{isPropagated, refusedAt, refusedBy, takenUp};
+ghost use Rattle.rules.specs.Records.{appendedAt, isPropagated, refusedAt, refusedBy, takenUp};
 ghost use Rattle.rules.specs.Looking.{lookedIn, numberLooked, slotOf};
 ghost use Rattle.rules.specs.Answers.{Kept, Handed, Answers, Answered};
 use basis::ABOVE_LIMIT;
@@ -59,6 +59,7 @@ use instances::same_instance;
 use instances::two_literals;
 use joining::Merged;
 use merging::reason_of;
+use testing::NewAtoms;
 use testing::gathered;
 use testing::new_atoms;
 use testing::possible;
@@ -285,6 +286,29 @@ fn taken_up(run: Run, of: Instanced) -> Stepped
     }
 }
 
+// Accepted: `own` is entry m, the new atoms follow it and are the last. `learned` is the number under which a clause was learned, or 0.
+fn appended(run: Run, m: usize, own: Entry, fresh: NewAtoms, learned: u8) -> Stepped
+    requires { ⌜ (fresh .count ≤ mostAtoms) × (m + fresh .count < mostEntries) ⌝ }
+    ensures { λ a. ⌜ a ≡ appendedAt run m own fresh learned ⌝ }
+{
+    let n = fresh.count as usize;
+    let mut next = run;
+    next.trail[m] = own;
+    let mut j = 0;
+    while j < n {
+        let a = fresh.at[j];
+        j += 1;
+        next.trail[m + j] = background_entry(a);
+    }
+    next.length = (m + n + 1) as u8;
+    Stepped {
+        run: next,
+        number: 0,
+        place: 0,
+        learned: learned,
+    }
+}
+
 // ---- what a step looks at
 
 // The slot of the last entry; of the empty trail the first
@@ -404,21 +428,8 @@ impl Run {
         if number != 0 {
             return refused_at(self, number, seen.first);
         }
-        let mut next = self;
-        next.trail[m] = propagated_entry(g, c, l, instance, count);
-        let mut j = 0;
-        while j < n {
-            let a = fresh.at[j];
-            j += 1;
-            next.trail[m + j] = background_entry(a);
-        }
-        next.length = (m + n + 1) as u8;
-        Stepped {
-            run: next,
-            number: 0,
-            place: 0,
-            learned: 0,
-        }
+        let e = propagated_entry(g, c, l, instance, count);
+        appended(self, m, e, fresh, 0)
     }
 
     // "2 Decide (clause, literal, sign, instance). No conflict. The atom of the literal, with the sign given, is undefined. It is appended, k
@@ -672,25 +683,13 @@ impl Run {
             k -= 1;
             self.trail[k] = blank;
         }
-        self.trail[kept] = propagated_entry(g, own, l, instance, c.variables);
-        let mut j = 0;
-        while j < m {
-            let a = fresh.at[j];
-            j += 1;
-            self.trail[kept + j] = background_entry(a);
-        }
         let none = no_instanced();
-        self.length = (kept + m + 1) as u8;
         self.level = at.others;
         self.learned += 1;
         self.stands = false;
         self.conflict = none;
-        Stepped {
-            run: self,
-            number: 0,
-            place: 0,
-            learned: own,
-        }
+        let e = propagated_entry(g, own, l, instance, c.variables);
+        appended(self, kept, e, fresh, own)
     }
 
     // "8 Grow (count). No conflict. So many constants are added at the end; trail empty, k is 0."

@@ -1,4 +1,4 @@
-use mathlib.Core.Path.{sym, ap₂, _∙_}
+use mathlib.Core.Path.{ap₂, _∙_}
 use Rattle.rules.proofs.Simple.{factorize-refused, factorize-passed, factorize-accepted}
 use Rattle.merging.specs.Results.{factorized}
 use borrow.Author.Needs.{needs}

@@ -1,5 +1,4 @@
 use native.Mathlib.Omega.{arith}
-use mathlib.Core.Path.{sym, _∙_}
 use Rattle.rules.proofs.Runs.{kept-small}
 use Rattle.rules.proofs.Simple.{skip-refused, skip-passed, skip-accepted}
 use borrow.Author.Needs.{needs}
