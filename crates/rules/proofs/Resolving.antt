@@ -15,7 +15,8 @@ use Rattle.basis.specs.declared.Literal.{Literal}
 use Rattle.lists.proofs.Tests.{and-l, and-r}
 use Rattle.rules.specs.Answers.{RunOf, Told}
 use Rattle.rules.specs.Looking.{heldAt, lastNamed, lookedAt}
-use Rattle.rules.specs.Records.{isPropagated, packedRun, refusedBy, takenUp}
+use Rattle.rules.specs.Records.{packedRun, refusedBy, takenUp}
+use Rattle.asking.specs.Kinds.{isPropagated}
 use Rattle.rules.specs.declared.Looked.{Looked}
 use Rattle.rules.specs.declared.Run.{Run}
 use Rattle.calculus.proofs.Class.{limited-of, placed}

@@ -1,6 +1,6 @@
 -- Run records, answers and step records as the calculus's states, answers and steps.
 use mathlib.Core.List.{List}
-use mathlib.Core.Bool.{Bool, true, false, cond}
+use mathlib.Core.Bool.{true, cond}
 use Prim.Native.Nat.{ℕ, zero, suc, _+_}
 use lib.Dec.{eqb}
 use lib.ListN.{length, getD, set}
@@ -16,8 +16,6 @@ use Rattle.clauses.specs.Records.{packedInstanced}
 use Rattle.clauses.specs.declared.Instanced.{Instanced}
 use Rattle.trail.specs.Entries.{packedEntry, packedTrail}
 use Rattle.trail.specs.declared.Entry.{Entry}
-use Rattle.trail.specs.declared.Kind.{Kind}
-use Rattle.trail.specs.declared.Kind.the-variants.{Background, Propagated, Decided}
 use Rattle.testing.specs.declared.NewAtoms.{NewAtoms}
 use Rattle.rules.specs.declared.Run.{Run}
 use Rattle.rules.specs.declared.Step.{Step}
@@ -73,12 +71,6 @@ withAtoms es m az (suc j) = set (withAtoms es m az j) (m + suc j) (packedEntry (
 -- Accepted: e is entry m, and the new atoms follow it and are the last; c is as above.
 abbrev pub appendedAt : Run → ℕ → Entry → NewAtoms → ℕ → Stepped
 appendedAt r m e f c = lengthened r (m + f .count + 1) (withAtoms (set (r .trail) m e) m (f .at) (f .count)) c
-
--- An entry of this kind is a propagated literal.
-abbrev pub isPropagated : Kind → Bool
-isPropagated Background = false
-isPropagated Propagated = true
-isPropagated Decided = false
 
 -- The instance of a step, as many constants as it counts
 abbrev pub instanceOf : Step → List ℕ

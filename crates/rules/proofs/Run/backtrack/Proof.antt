@@ -15,7 +15,7 @@ use Rattle.instances.proofs.again.Reads as again-reads
 use Rattle.instances.proofs.conflict_instance.Reads as conflict-instance-reads
 use Rattle.instances.proofs.literal_exists.Reads as literal-exists-reads
 use Rattle.rules.proofs.appended.Reads as appended-reads
-use Rattle.rules.proofs.refusal.Reads as refusal-reads
+use Rattle.asking.proofs.refusal.Reads as refusal-reads
 use Rattle.rules.proofs.refused.Reads as refused-reads
 use Rattle.testing.proofs.gathered.Reads as gathered-reads
 use Rattle.testing.proofs.new_atoms.Reads as new-atoms-reads

@@ -8,8 +8,8 @@ use Rattle.rules.proofs.Run.conflict.Reads as reads
 use Rattle.rules.proofs.Run.conflict.Lts as lts
 use Rattle.clauses.proofs.no_literal.Reads as no-literal-reads
 use Rattle.instances.proofs.first_constants.Reads as first-constants-reads
-use Rattle.rules.proofs.instance_named.Reads as instance-named-reads
-use Rattle.rules.proofs.refusal.Reads as refusal-reads
+use Rattle.asking.proofs.instance_named.Reads as instance-named-reads
+use Rattle.asking.proofs.refusal.Reads as refusal-reads
 use Rattle.rules.proofs.refused_at.Reads as refused-at-reads
 use Rattle.rules.proofs.taken_up.Reads as taken-up-reads
 use Rattle.testing.proofs.gathered.Reads as gathered-reads

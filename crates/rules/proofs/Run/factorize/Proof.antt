@@ -10,7 +10,7 @@ use Rattle.instances.proofs.index_of.Reads as index-of-reads
 use Rattle.instances.proofs.same_instance.Reads as same-instance-reads
 use Rattle.instances.proofs.two_literals.Reads as two-literals-reads
 use Rattle.merging.proofs.factorize.Reads as factorize-reads
-use Rattle.rules.proofs.refusal.Reads as refusal-reads
+use Rattle.asking.proofs.refusal.Reads as refusal-reads
 use Rattle.rules.proofs.refused.Reads as refused-reads
 use Rattle.rules.proofs.taken_up.Reads as taken-up-reads
 

@@ -8,8 +8,8 @@ use Rattle.rules.proofs.Run.propagate.Reads as reads
 use Rattle.rules.proofs.Run.propagate.Lts as lts
 use Rattle.instances.proofs.literal_instance.Reads as literal-instance-reads
 use Rattle.rules.proofs.appended.Reads as appended-reads
-use Rattle.rules.proofs.literal_named.Reads as literal-named-reads
-use Rattle.rules.proofs.refusal.Reads as refusal-reads
+use Rattle.asking.proofs.literal_named.Reads as literal-named-reads
+use Rattle.asking.proofs.refusal.Reads as refusal-reads
 use Rattle.rules.proofs.refused_at.Reads as refused-at-reads
 use Rattle.testing.proofs.gathered.Reads as gathered-reads
 use Rattle.testing.proofs.new_atoms.Reads as new-atoms-reads
