@@ -44,12 +44,3 @@ none p e = omega arith
 
 pub positive : (p : ℕ) → ¬ (p ≡ 0) → 0 < p
 positive p e = omega arith
-
--- A literal that does not exist, whatever else is asked
-pub no-literal : (a b c : Bool) {l : Bool} → l ≡ false → false ≡ (a && (b && (l && c)))
-no-literal a b c e = sym (ap (λ (l : Bool). a && (b && (l && c))) e ∙ both a b)
-  where
-    both : (a b : Bool) → (a && (b && false)) ≡ false
-    both true true = refl
-    both true false = refl
-    both false b = refl

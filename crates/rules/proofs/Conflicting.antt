@@ -1,5 +1,5 @@
 -- Conflict: each answer in terms of what the code has seen.
-use mathlib.Core.Path.{_∙_, _≡_, refl, subst, sym}
+use mathlib.Core.Path.{_∙_, _≡_, subst, sym}
 use mathlib.Core.Logic.{_↔_}
 use mathlib.Core.List.{List}
 use mathlib.Core.Bool.{Bool, _&&_, cond, false, not, true}
@@ -8,11 +8,10 @@ use native.Mathlib.Omega.{arith}
 use lib.Dec.{T, eqb, leb}
 use lib.ListN.{length, take}
 use borrow.Author.Tests.{eqb-false, eqb-true, leb-false, leb-true, not-false, not-true}
-use Rattle.clauses.specs.declared.Clause.{Clause}
 use Rattle.rules.proofs.Asking.{and-so, asked, none, other-told, passed, place-told, positive}
 use Rattle.calculus.specs.Clauses as calculus
 use Rattle.rules.specs.Looking.{lookedAt}
-use Rattle.rules.specs.Records.{refusedAt, refusedBy}
+use Rattle.rules.specs.Records.{refusedAt, refusedBy, takenUp}
 use Rattle.rules.specs.declared.Looked.{Looked}
 use Rattle.basis.specs.Atoms.{Possible}
 use Rattle.basis.specs.Limits.{mostVariables}
@@ -25,12 +24,12 @@ use Rattle.rules.specs.declared.Run.{Run}
 use Rattle.rules.specs.declared.Stepped.{Stepped}
 use Rattle.calculus.specs.Checks.{between}
 use Rattle.calculus.specs.Clauses.{groundAtoms}
-use Rattle.calculus.specs.Rules.{allFalse, clauseExists, instanceFits, next, question}
+use Rattle.calculus.specs.Rules.{allFalse, clauseExists, instanceFits, question}
 use Rattle.calculus.specs.States.{Conflict, State, Step, clauseAt, clauses, stands}
 use Rattle.calculus.specs.Trails.{atomsOf}
 use Rattle.clauses.specs.Records.{clauseOf, packed}
 use Rattle.rules.proofs.Naming.{and-true, asked-is, instance-is, instance-long, instance-short, looks-named, named-packed}
-use Rattle.rules.proofs.Runs.{accepting, constants-is, input-is, learned-is, level-is, packed-as, standing, stands-is, stored}
+use Rattle.rules.proofs.Runs.{standing, stands-is, with-conflict}
 use Rattle.rules.proofs.Testing.{carry, not-zero, tested}
 use Rattle.rules.proofs.Told.{accepted-as, refused, refused-at, refused-by}
 use Rattle.trail.proofs.NotFalse.{its-number, none-fails, one-fails}
@@ -38,19 +37,6 @@ use Rattle.testing.specs.Asked.{Gathers, SaysPossible, testedAtoms}
 use Rattle.testing.specs.declared.Tested.{Tested}
 use Rattle.trail.specs.Answers.{firstNumber, passes}
 use Rattle.trail.specs.Entries.{trailOf}
-
--- The run with a conflict standing
-abbrev pub standingWith : Run → Clause → List ℕ → Run
-standingWith r k σ = record {
-  constants = r .constants;
-  input = r .input;
-  learned = r .learned;
-  level = r .level;
-  length = r .length;
-  stands = true;
-  trail = r .trail;
-  conflict = record { clause = k; instance = σ };
-}
 
 module _ {r : Run} {s : State} (R : RunOf r s) (k : Looked) (c count : ℕ) (ι : List ℕ) (long : length ι ≡ 12) where
   conflict-long : mostVariables < count → Told s (Conflict c (exactly count 0 ι)) (refusedBy r aboveLimit)
@@ -120,10 +106,10 @@ module _ {r : Run} {s : State} (R : RunOf r s) (k : Looked) (c count : ℕ) (ι 
           conflict-impossible h = given (refused-by R y b says notPossible tt tt (simp (short, free, named h₃, all, h)))
 
           conflict-accepted : b ≡ true → (a : List ℕ) → a ≡ exactly mostVariables 0 υ
-              → Told s (Conflict c (exactly count 0 ι)) (accepting (standingWith r (k .clause) a))
+              → Told s (Conflict c (exactly count 0 ι)) (takenUp r (record { clause = k .clause; instance = a }))
           conflict-accepted h a q = given (accepted-as R y b says
               (simp (short, free, named h₃, all, h) (tt, (tt, (tt, (tt, (tt, tt))))))
-              _ (packed-as (next s y) (constants-is R) (input-is R) (learned-is R) (level-is R) refl (stored R) (λ i. record { clause = named-packed R (k .clause) c looks there i; instance = q i })))
+              _ (with-conflict R (record { clause = k .clause; instance = a }) (record { clause = D; instance = υ }) (λ i. record { clause = named-packed R (k .clause) c looks there i; instance = q i })))
 
   module _ (handed : k ≡ lookedAt s (Conflict c (exactly count 0 ι))) (a : Bool) (a-is : a ≡ (leb count mostVariables && (between 1 (r .input + r .learned) c && instanceFits (r .constants) (clauseOf (k .clause)) (take count ι))))
       (z : Literal) (p : ℕ) (p-is : p ≡ firstNumber (passes false z (trailOf (r .trail) (r .length)) (take count ι)) (clauseOf (k .clause) .literals))
@@ -142,7 +128,7 @@ module _ {r : Run} {s : State} (R : RunOf r s) (k : Looked) (c count : ℕ) (ι 
         (λ t₄ q₄. absurd (h (q₀ ∙ q₁ ∙ q₂ ∙ q₃ ∙ q₄)))))))
 
     pub conflict-told : n ≡ 0 → (σ : List ℕ) → σ ≡ exactly mostVariables 0 (take count ι)
-        → Told s (Conflict c (exactly count 0 ι)) (accepting (standingWith r (k .clause) σ))
+        → Told s (Conflict c (exactly count 0 ι)) (takenUp r (record { clause = k .clause; instance = σ }))
     conflict-told o σ q =
         let (t₀, z₁) = passed (leb count mostVariables) _ _ e₀ tt o in
         let (t₁, z₂) = passed (not (r .stands)) _ _ e₁ tt z₁ in

@@ -1,7 +1,6 @@
 -- The clause that a step names, and its instance: what the code has seen, as the calculus's conditions.
 use mathlib.Core.Path.{_∙_, _≡_, ap, refl, subst, sym}
-use mathlib.Core.Logic.{_↔_, _⊎_, inl, inr}
-use mathlib.Core.List.{List, List·Memᴰ, List·Memᴰ·append-cases}
+use mathlib.Core.List.{List, List·Memᴰ}
 use mathlib.Core.Bool.{Bool, _&&_, false, true}
 use Prim.Native.Nat.{_+_, _-_, _<_, _≤_, suc, zero, ℕ}
 use native.Mathlib.Omega.{arith}
@@ -9,9 +8,8 @@ use lib.Dec.{T, leb}
 use lib.ListN.{getD, length, take}
 use lib.Seq.{length-take-le}
 use borrow.Author.Tests.{le-leb, lt-leb}
-use Rattle.basis.specs.Atoms.{Possible, Proper}
-use Rattle.basis.specs.Limits.{mostConstants, mostVariables}
-use Rattle.basis.specs.Numbers.{whole}
+use Rattle.basis.specs.Atoms.{Proper}
+use Rattle.basis.specs.Limits.{mostVariables}
 use Rattle.basis.specs.declared.Atom.{Atom}
 use Rattle.lists.proofs.Arrays.{exactly-length, exactly-take}
 use Rattle.lists.specs.Arrays.{exactly}

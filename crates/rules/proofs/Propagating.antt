@@ -12,7 +12,7 @@ use borrow.Author.Tests.{eqb-false, eqb-true, le-leb, leb-false, leb-true, lt-le
 use Rattle.rules.proofs.Asking.{and-so, asked, none, other-told, passed, place-told, positive}
 use Rattle.calculus.specs.Clauses as calculus
 use Rattle.basis.specs.Atoms.{Possible}
-use Rattle.basis.specs.Limits.{mostEntries, mostVariables}
+use Rattle.basis.specs.Limits.{mostAtoms, mostEntries, mostVariables}
 use Rattle.basis.specs.Numbers.{whole}
 use Rattle.basis.specs.Refusals.{aboveLimit, alreadyDefined, noRoom, noSuch, notFalse, notPossible, wrongMoment}
 use Rattle.basis.specs.declared.Atom.{Atom}
@@ -20,7 +20,7 @@ use Rattle.basis.specs.declared.Literal.{Literal}
 use Rattle.lists.specs.Arrays.{exactly}
 use Rattle.rules.specs.Answers.{RunOf, Told}
 use Rattle.rules.specs.Looking.{lookedAt}
-use Rattle.rules.specs.Records.{refusedAt, refusedBy}
+use Rattle.rules.specs.Records.{appendedAt, refusedAt, refusedBy}
 use Rattle.rules.specs.declared.Looked.{Looked}
 use Rattle.rules.specs.declared.Run.{Run}
 use Rattle.rules.specs.declared.Stepped.{Stepped}
@@ -30,8 +30,9 @@ use Rattle.calculus.specs.Rules.{clauseExists, instanceFits, literalExists, nex
 use Rattle.calculus.specs.States.{Propagate, State, Step, clauseAt, clauses, conflictOf, stands}
 use Rattle.calculus.specs.Trails.{atomsOf, foreground, propagated, undefined}
 use Rattle.clauses.specs.Records.{clauseOf, packed, packedInstanced}
+use Rattle.rules.proofs.Growing.{appended-stored, few-new}
 use Rattle.rules.proofs.Naming.{and-true, asked-is, instance-is, instance-long, instance-short, looks-named}
-use Rattle.rules.proofs.Runs.{accepting, conflict-is, constants-is, input-is, learned-is, level-is, no-conflict, packed-as, remade, standing, stands-is}
+use Rattle.rules.proofs.Runs.{conflict-is, constants-is, input-is, learned-is, level-is, no-conflict, packed-as, standing, stands-is, stored}
 use Rattle.rules.proofs.Testing.{carry, not-zero, tested}
 use Rattle.rules.proofs.Told.{accepted-as, refused, refused-at, refused-by}
 use Rattle.testing.proofs.Atoms.{known-says, step-says}
@@ -41,9 +42,10 @@ use Rattle.testing.specs.New.{newAtoms, packedNew, pushedAtoms}
 use Rattle.testing.specs.declared.NewAtoms.{NewAtoms}
 use Rattle.testing.specs.declared.Tested.{Tested}
 use Rattle.trail.proofs.NotFalse.{its-number, none-fails, one-fails}
+use Rattle.trail.proofs.Stored.{stored-own}
 use Rattle.trail.proofs.Walks.{trail-length}
 use Rattle.trail.specs.Answers.{firstNumber, literalsSeen, passes}
-use Rattle.trail.specs.Entries.{Stored, trailOf}
+use Rattle.trail.specs.Entries.{Recorded, Stored, trailOf}
 use Rattle.trail.specs.declared.Entry.{Entry}
 use Rattle.trail.specs.declared.LiteralsSeen.{LiteralsSeen}
 
@@ -145,12 +147,11 @@ module _ {r : Run} {s : State} (R : RunOf r s) (k : Looked) (c l count : ℕ) (�
               propagate-no-room : mostEntries ≤ r .length + f .count → Told s (Propagate c l (exactly count 0 ι)) (refusedBy r noRoom)
               propagate-no-room h = given (refused-by R x b says noRoom tt tt (simp (short, free, named h₃, open-yet h₄, others, h₆, lt-leb (length (next s x .trail)) mostEntries (omega (arith, grown-length)))))
 
-              propagate-accepted : r .length + f .count < mostEntries → (es : List Entry) → Stored es (r .length + f .count + 1) (pushedAtoms new (foreground m (propagated c l τ) ∷ trailOf (r .trail) (r .length)))
-                  → Told s (Propagate c l (exactly count 0 ι)) (accepting (remade r (r .constants) (r .level) (r .length + f .count + 1) es (r .conflict)))
-              propagate-accepted h es S = given (accepted-as R x b says
+              propagate-accepted : r .length + f .count < mostEntries → (e : Entry) → Recorded e (foreground m (propagated c l τ)) → Told s (Propagate c l (exactly count 0 ι)) (appendedAt r (r .length) e f 0)
+              propagate-accepted h e E = given (accepted-as R x b says
                   (simp (short, free, named h₃, open-yet h₄, others, h₆, le-leb (length (next s x .trail)) mostEntries (omega (arith, grown-length))) (tt, (tt, (tt, (tt, (tt, (tt, (tt, tt))))))))
                   _ (packed-as (next s x) (constants-is R) (input-is R) (learned-is R) (level-is R) h₂
-                  (subst (Stored es (r .length + f .count + 1)) (sym grown) S)
+                  (subst (Stored (appendedAt r (r .length) e f 0 .run .trail) (r .length + f .count + 1)) (sym grown) (appended-stored f new f-is (few-new G f-is) h (stored-own (stored R)) E))
                   (conflict-is R ∙ ap (λ (q : Option calculus.Instanced). packedInstanced (conflictOf q)) (no-conflict (s .conflict) free))))
 
   module _ (handed : k ≡ lookedAt s (Propagate c l (exactly count 0 ι))) (a : Bool)
@@ -184,7 +185,7 @@ module _ {r : Run} {s : State} (R : RunOf r s) (k : Looked) (c l count : ℕ) (�
         (λ t₆ q₆. absurd (h (q₀ ∙ q₁ ∙ q₂ ∙ q₃ ∙ q₄ ∙ q₅ ∙ q₆)))))))))
 
     -- There is room ..
-    pub propagate-fits : n ≡ 0 → r .length + f .count < mostEntries
+    pub propagate-fits : n ≡ 0 → (f .count ≤ mostAtoms) × (r .length + f .count < mostEntries)
     propagate-fits o =
         let (t₀, z₁) = passed (leb count mostVariables) _ _ e₀ tt o in
         let (t₁, z₂) = passed (not (r .stands)) _ _ e₁ tt z₁ in
@@ -193,16 +194,15 @@ module _ {r : Run} {s : State} (R : RunOf r s) (k : Looked) (c l count : ℕ) (�
         let (t₄, z₅) = passed (eqb (v .first) 0) _ _ e₄ tt z₄ in
         let (t₅, z₆) = passed b _ _ e₅ tt z₅ in
         let (t₆, z₇) = passed (ltb (r .length + f .count) mostEntries) _ _ e₆ tt z₆ in
-        ltb-true (r .length + f .count) mostEntries t₆
+        (few-new G f-is, ltb-true (r .length + f .count) mostEntries t₆)
 
     -- .. and what is stored is what the rule names.
-    pub propagate-told : n ≡ 0 → (es : List Entry) → Stored es (r .length + f .count + 1) (pushedAtoms (newAtoms (knownAtoms w) (stepAtoms w)) (foreground m (propagated c l (take count ι)) ∷ trailOf (r .trail) (r .length)))
-        → Told s (Propagate c l (exactly count 0 ι)) (accepting (remade r (r .constants) (r .level) (r .length + f .count + 1) es (r .conflict)))
-    propagate-told o es S =
+    pub propagate-told : n ≡ 0 → (e : Entry) → Recorded e (foreground m (propagated c l (take count ι))) → Told s (Propagate c l (exactly count 0 ι)) (appendedAt r (r .length) e f 0)
+    propagate-told o e E =
         let (t₀, z₁) = passed (leb count mostVariables) _ _ e₀ tt o in
         let (t₁, z₂) = passed (not (r .stands)) _ _ e₁ tt z₁ in
         let (t₂, z₃) = passed a _ _ e₂ tt z₂ in
         let (t₃, z₄) = passed (v .free) _ _ e₃ tt z₃ in
         let (t₄, z₅) = passed (eqb (v .first) 0) _ _ e₄ tt z₄ in
         let (t₅, z₆) = passed b _ _ e₅ tt z₅ in
-        propagate-accepted (leb-true count mostVariables t₀) (not-true (r .stands) t₁) handed (is-named t₀ t₂) m m-is (is-free t₃) (v .first) is-first (none (v .first) (eqb-true (v .first) 0 t₄)) w G b d t₅ f f-is (propagate-fits o) es S
+        propagate-accepted (leb-true count mostVariables t₀) (not-true (r .stands) t₁) handed (is-named t₀ t₂) m m-is (is-free t₃) (v .first) is-first (none (v .first) (eqb-true (v .first) 0 t₄)) w G b d t₅ f f-is (propagate-fits o .1) e E

@@ -15,7 +15,8 @@ use Rattle.basis.specs.declared.Literal.{Literal}
 use Rattle.lists.proofs.Tests.{and-l, and-r}
 use Rattle.rules.specs.Answers.{RunOf, Told}
 use Rattle.rules.specs.Looking.{heldAt, lastNamed, lookedAt}
-use Rattle.rules.specs.Records.{isPropagated, packedRun, refusedBy}
+use Rattle.rules.specs.Records.{packedRun, refusedBy, takenUp}
+use Rattle.asking.specs.Kinds.{isPropagated}
 use Rattle.rules.specs.declared.Looked.{Looked}
 use Rattle.rules.specs.declared.Run.{Run}
 use Rattle.calculus.proofs.Class.{limited-of, placed}
@@ -40,7 +41,7 @@ use Rattle.merging.specs.Results.{reasonOf, resolved}
 use Rattle.rules.proofs.Reached.{AllFine, Fine}
 use Rattle.rules.proofs.Asking.{as-told, asked, passed}
 use Rattle.rules.proofs.Naming.{looks-named}
-use Rattle.rules.proofs.Runs.{accepting, conflict-is, conflict-says, fine, fine-conflict, last-shown, none-shown, remade, stands-shown, with-conflict, within}
+use Rattle.rules.proofs.Runs.{conflict-is, conflict-says, fine, fine-conflict, last-shown, none-shown, stands-shown, with-conflict, within}
 use Rattle.rules.proofs.Told.{accepted-as, nothing-asked, refused}
 use Rattle.trail.specs.Entries.{entryAs, entryOf, pastEnd, trailOf}
 use Rattle.trail.specs.declared.Kind.{Kind}
@@ -199,10 +200,10 @@ module _ {r : Run} {s : State} (R : RunOf r s) (k : Looked) (l : ℕ) where
               resolve-no-room : m .fits ≡ false → Told s (Resolve l) (refusedBy r noRoom)
               resolve-no-room z = refused R (Resolve l) noRoom tt tt (λ a. simp (stands-shown R e, exists h, last-is p, same d, limits z))
 
-              resolve-accepted : m .fits ≡ true → Told s (Resolve l) (accepting (remade r (r .constants) (r .level) (r .length) (r .trail) (m .of)))
+              resolve-accepted : m .fits ≡ true → Told s (Resolve l) (takenUp r (m .of))
               resolve-accepted z = accepted-as R (Resolve l) true (nothing-asked s (Resolve l) refl)
                   (rw (stands-shown R e) tt, (rw (exists h) tt, (rw (last-is p) tt, (rw (same d) tt, (rw (limits z) tt, tt)))))
-                  _ (with-conflict R (m .of) M e (ap (λ (w : Merged). w .of) merged-is ∙ fitted-of M (sym (fits-is M) ∙ ap (λ (w : Merged). w .fits) (sym merged-is) ∙ z)) ∙ ap packedRun (sym next-is))
+                  _ (with-conflict R (m .of) M (ap (λ (w : Merged). w .of) merged-is ∙ fitted-of M (sym (fits-is M) ∙ ap (λ (w : Merged). w .fits) (sym merged-is) ∙ z)) ∙ ap packedRun (sym next-is))
 
   -- The last entry stands in slot j.
   module _ (handed : k ≡ lookedAt s (Resolve l)) (j : ℕ) (j-is : j ≡ r .length - 1) (a b d : Bool) (a-is : a ≡ literalExists (clauseOf (r .conflict .clause)) l) (b-is : b ≡ isPropagated (getD (r .trail) j pastEnd .kind))
@@ -220,7 +221,7 @@ module _ {r : Run} {s : State} (R : RunOf r s) (k : Looked) (l : ℕ) where
         asked (m .fits) _ _ e₅ (λ f q. as-told (q₀ ∙ q₁ ∙ q₂ ∙ q₃ ∙ q₄ ∙ q) (resolve-no-room t₀ (sym a-is ∙ t₁) (ltb-true 0 (r .length) t₂) j j-is (sym b-is ∙ t₃) (sym d-is ∙ t₄) handed m m-is f))
         (λ t₅ q₅. absurd (h (q₀ ∙ q₁ ∙ q₂ ∙ q₃ ∙ q₄ ∙ q₅))))))))
 
-    pub resolve-told : n ≡ 0 → Told s (Resolve l) (accepting (remade r (r .constants) (r .level) (r .length) (r .trail) (m .of)))
+    pub resolve-told : n ≡ 0 → Told s (Resolve l) (takenUp r (m .of))
     resolve-told o =
         let (t₀, z₁) = passed (r .stands) _ _ e₀ tt o in
         let (t₁, z₂) = passed a _ _ e₁ tt z₁ in

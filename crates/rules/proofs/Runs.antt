@@ -11,7 +11,7 @@ use Rattle.basis.specs.Refusals.{accepted}
 use Rattle.basis.specs.Limits.{mostAtoms, mostConstants, mostEntries, mostInput, mostLearned, mostLiterals, mostVariables}
 use Rattle.lists.proofs.Tests.{T→eq, and-i}
 use Rattle.rules.specs.Answers.{Kept, RunOf}
-use Rattle.rules.specs.Records.{packedRun}
+use Rattle.rules.specs.Records.{packedRun, takenUp}
 use Rattle.rules.specs.declared.Run.{Run}
 use Rattle.rules.specs.declared.Stepped.{Stepped}
 use Rattle.calculus.proofs.Levels.{clause-held}
@@ -138,9 +138,8 @@ split-last es (suc n) h = let e : n ≡ suc n - 1 = omega arith in ap (λ (k : �
 
 module _ {r : Run} {s : State} (R : RunOf r s) where
   -- A state with another conflict
-  pub with-conflict : (n : Instanced) (N : calculus.Instanced) → r .stands ≡ true → n ≡ packedInstanced N
-      → remade r (r .constants) (r .level) (r .length) (r .trail) n ≡ packedRun (updated s (s .trail) (s .level) (some N))
-  with-conflict n N e h = packed-as (updated s (s .trail) (s .level) (some N)) (constants-is R) (input-is R) (learned-is R) (level-is R) e (stored R) h
+  pub with-conflict : (n : Instanced) (N : calculus.Instanced) → n ≡ packedInstanced N → takenUp r n .run ≡ packedRun (updated s (s .trail) (s .level) (some N))
+  with-conflict n N h = packed-as (updated s (s .trail) (s .level) (some N)) (constants-is R) (input-is R) (learned-is R) (level-is R) refl (stored R) h
 
 -- ---- what a run shows
 

@@ -11,7 +11,7 @@ use borrow.Author.Tests.{le-leb, leb-false, leb-true, lt-leb, ltb-false, ltb-tru
 use Rattle.basis.specs.Limits.{mostConstants}
 use Rattle.basis.specs.Refusals.{noEntry, noRoom, noSuch, wrongLiteral, wrongMoment}
 use Rattle.rules.specs.Answers.{RunOf, Told}
-use Rattle.rules.specs.Records.{refusedBy}
+use Rattle.rules.specs.Records.{refusedBy, takenUp}
 use Rattle.rules.specs.declared.Run.{Run}
 use Rattle.calculus.proofs.Class.{factored-limited}
 use Rattle.calculus.specs.Class.{Limited}
@@ -156,10 +156,10 @@ module _ {r : Run} {s : State} (R : RunOf r s) (i j : ℕ) where
       factorize-differ f = refused R (Factorize i j) wrongLiteral tt tt (λ a. simp (stands-shown R e, shown (Two i j) h, shown (Same i j) f))
 
       pub factorize-accepted : Same i j (instancedOf (r .conflict)) ≡ true → (m : Merged) → m ≡ factorized (r .conflict) (i - 1) (j - 1)
-          → Told s (Factorize i j) (accepting (remade r (r .constants) (r .level) (r .length) (r .trail) (m .of)))
+          → Told s (Factorize i j) (takenUp r (m .of))
       factorize-accepted f m g = accepted-as R (Factorize i j) true (nothing-asked s (Factorize i j) refl)
           (rw (stands-shown R e) tt, (rw (shown (Two i j) h) tt, (rw (shown (Same i j) f) tt, tt)))
-          _ (with-conflict R (m .of) (factored (conflictOf (s .conflict)) (i - 1) (j - 1)) e (ap (λ (w : Merged). w .of) is))
+          _ (with-conflict R (m .of) (factored (conflictOf (s .conflict)) (i - 1) (j - 1)) (ap (λ (w : Merged). w .of) is))
         where
           is : m ≡ record { fits = true; of = packedInstanced (factored (conflictOf (s .conflict)) (i - 1) (j - 1)) }
           is = g ∙ ap (λ (n : Instanced). factorized n (i - 1) (j - 1)) (conflict-is R) ∙ factorized-is (conflictOf (s .conflict)) (i - 1) (j - 1) (fine-conflict R e .limited) (fine-conflict R e .sized .size)

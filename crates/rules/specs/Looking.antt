@@ -14,7 +14,7 @@ use Rattle.calculus.specs.Trails.{Trail, foreground, background, propagated, de
 use Rattle.clauses.specs.Records.{packed}
 use Rattle.clauses.specs.declared.Clause.{Clause}
 use Rattle.trail.specs.declared.Entry.{Entry}
-use Rattle.rules.specs.Records.{isPropagated}
+use Rattle.asking.specs.Kinds.{isPropagated}
 use Rattle.rules.specs.declared.Looked.{Looked}
 use Rattle.rules.specs.declared.Step.{Step}
 

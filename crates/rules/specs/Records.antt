@@ -1,18 +1,22 @@
 -- Run records, answers and step records as the calculus's states, answers and steps.
 use mathlib.Core.List.{List}
-use mathlib.Core.Bool.{Bool, true, false, cond}
-use Prim.Native.Nat.{ℕ}
+use mathlib.Core.Bool.{true, cond}
+use Prim.Native.Nat.{ℕ, zero, suc, _+_}
 use lib.Dec.{eqb}
-use lib.ListN.{length}
+use lib.ListN.{length, getD, set}
 use Rattle.lists.specs.Arrays.{exactly}
 use Rattle.calculus.specs.States as calculus
 use Rattle.calculus.specs.States.{State, conflictOf}
 use Rattle.basis.specs.Refusals.{accepted, notFalse}
+use Rattle.basis.specs.Atoms.{noAtom}
+use Rattle.basis.specs.declared.Atom.{Atom}
 use Rattle.calculus.specs.Rules.{Answer, learnsAt}
+use Rattle.calculus.specs.Trails.{background}
 use Rattle.clauses.specs.Records.{packedInstanced}
-use Rattle.trail.specs.Entries.{packedTrail}
-use Rattle.trail.specs.declared.Kind.{Kind}
-use Rattle.trail.specs.declared.Kind.the-variants.{Background, Propagated, Decided}
+use Rattle.clauses.specs.declared.Instanced.{Instanced}
+use Rattle.trail.specs.Entries.{packedEntry, packedTrail}
+use Rattle.trail.specs.declared.Entry.{Entry}
+use Rattle.testing.specs.declared.NewAtoms.{NewAtoms}
 use Rattle.rules.specs.declared.Run.{Run}
 use Rattle.rules.specs.declared.Step.{Step}
 use Rattle.rules.specs.declared.Stepped.{Stepped}
@@ -41,11 +45,32 @@ refusedBy r n = record { run = r; number = n; place = 0; learned = 0 }
 abbrev pub refusedAt : Run → ℕ → Stepped
 refusedAt r p = record { run = r; number = notFalse; place = p; learned = 0 }
 
--- An entry of this kind is a propagated literal.
-abbrev pub isPropagated : Kind → Bool
-isPropagated Background = false
-isPropagated Propagated = true
-isPropagated Decided = false
+-- Accepted, and n is the conflict that stands
+abbrev pub takenUp : Run → Instanced → Stepped
+takenUp r n = record {
+  run = record { constants = r .constants; input = r .input; learned = r .learned; level = r .level; length = r .length; stands = true; trail = r .trail; conflict = n };
+  number = accepted;
+  place = 0;
+  learned = 0;
+}
+
+-- Accepted, with the first n entries of an array; c is the number under which a clause was learned, or 0.
+abbrev pub lengthened : Run → ℕ → List Entry → ℕ → Stepped
+lengthened r n es c = record {
+  run = record { constants = r .constants; input = r .input; learned = r .learned; level = r .level; length = n; stands = r .stands; trail = es; conflict = r .conflict };
+  number = accepted;
+  place = 0;
+  learned = c;
+}
+
+-- The array with the first j atoms behind entry m
+abbrev pub withAtoms : List Entry → ℕ → List Atom → ℕ → List Entry
+withAtoms es m az zero = es
+withAtoms es m az (suc j) = set (withAtoms es m az j) (m + suc j) (packedEntry (background (getD az j noAtom)))
+
+-- Accepted: e is entry m, and the new atoms follow it and are the last; c is as above.
+abbrev pub appendedAt : Run → ℕ → Entry → NewAtoms → ℕ → Stepped
+appendedAt r m e f c = lengthened r (m + f .count + 1) (withAtoms (set (r .trail) m e) m (f .at) (f .count)) c
 
 -- The instance of a step, as many constants as it counts
 abbrev pub instanceOf : Step → List ℕ

@@ -1,26 +1,25 @@
 // The run state and its rules, each a method by value that returns the next run state with the answer. A rule is handed the one clause that
 // it looks at; it changes no other.
 ghost use mathlib.Core.Path.{_≡_};
-ghost use mathlib.Core.List.{[], _∷_};
-ghost use mathlib.Core.Bool.{_&&_, cond};
+ghost use mathlib.Core.Bool.{cond};
 ghost use Prim.Native.Nat.{_+_, _-_, _≤_, _<_};
-ghost use lib.ListN.{take};
-ghost use Rattle.basis.specs.Limits.{mostVariables, mostInput, mostLearned, mostClauses};
+ghost use Rattle.basis.specs.Limits.{mostAtoms, mostClauses, mostEntries};
 ghost use Rattle.basis.specs.Refusals.{notFalse};
-ghost use lib.Dec.{eqb, leb};
+ghost use lib.Dec.{eqb};
 ghost use Rattle.lists.specs.Arrays.{exactly};
-ghost use Rattle.calculus.specs.Checks.{between};
-ghost use Rattle.calculus.specs.Clauses.{sameLiteral};
-ghost use Rattle.calculus.specs.Clauses as calculus;
-ghost use Rattle.calculus.specs.Rules.{literalExists, instanceFits, literalInstance, complementInConflict};
 ghost use Rattle.calculus.specs.States.{Propagate, Decide, Conflict, Resolve, Factorize, Skip, Backtrack, Grow, Unknown};
-ghost use Rattle.calculus.specs.Trails.{isDecision};
-ghost use Rattle.clauses.specs.Records.{clauseOf, instancedOf};
-ghost use Rattle.trail.specs.Entries.{entryOf};
-ghost use Rattle.merging.specs.Results.{resolved, reasonOf};
-ghost use Rattle.rules.specs.Records.{isPropagated, refusedAt, refusedBy};
+ghost use Rattle.asking.specs.Kinds.{isPropagated};
+ghost use Rattle.rules.specs.Records.{appendedAt, refusedAt, refusedBy, takenUp};
 ghost use Rattle.rules.specs.Looking.{lookedIn, numberLooked, slotOf};
 ghost use Rattle.rules.specs.Answers.{Kept, Handed, Answers, Answered};
+use asking::in_conflict;
+use asking::instance_named;
+use asking::is_complement;
+use asking::is_propagated;
+use asking::level_after;
+use asking::literal_named;
+use asking::refusal;
+use asking::resolvent;
 use basis::ABOVE_LIMIT;
 use basis::ALREADY_DEFINED;
 use basis::KEPT_NOT_POSSIBLE;
@@ -41,34 +40,27 @@ use basis::WRONG_LITERAL;
 use basis::WRONG_MOMENT;
 use clauses::Clause;
 use clauses::Instanced;
-use clauses::complement;
 use clauses::no_clause;
 use clauses::no_instanced;
 use clauses::no_literal;
-use clauses::same_literal;
 use instances::again;
 use instances::conflict_instance;
 use instances::decided_literal;
 use instances::first_constants;
-use instances::has_instance;
 use instances::index_of;
-use instances::instance_fits;
 use instances::literal_exists;
 use instances::literal_instance;
 use instances::same_instance;
 use instances::two_literals;
-use joining::Merged;
-use merging::reason_of;
+use testing::NewAtoms;
 use testing::gathered;
 use testing::new_atoms;
 use testing::possible;
 use trail::Entry;
-use trail::Kind;
 use trail::background_entry;
 use trail::blank_entry;
 use trail::decided_entry;
 use trail::empty_trail;
-use trail::is_decision;
 use trail::levels;
 use trail::literals_seen;
 use trail::propagated_entry;
@@ -116,130 +108,6 @@ pub struct Step {
 // "Instance" means variables replaced by constants: a constant for each variable, in order; slots past a count are not looked at.
 type Instance = [u8; MOST_VARIABLES];
 
-// ---- which numbers name something
-
-fn clause_exists(input: u8, learned: u8, c: u8) -> bool
-    requires { ⌜ (input ≤ mostInput) × (learned ≤ mostLearned) ⌝ }
-    ensures { λ r. ⌜ r ≡ between 1 (input + learned) c ⌝ }
-{
-    if c < 1 {
-        return false;
-    }
-    c <= input + learned
-}
-
-// A clause, and an instance for it, which is none where it is too long
-fn instance_named(
-    constants: u8,
-    input: u8,
-    learned: u8,
-    c: u8,
-    clause: Clause,
-    instance: Instance,
-    count: u8,
-) -> bool
-    requires { ⌜ (input ≤ mostInput) × (learned ≤ mostLearned) ⌝ }
-    ensures { λ r. ⌜ r ≡ (leb count mostVariables && (between 1 (input + learned) c && instanceFits constants (clauseOf clause) (take count instance))) ⌝ }
-{
-    if MOST_VARIABLES < count as usize {
-        return false;
-    }
-    if !clause_exists(input, learned, c) {
-        return false;
-    }
-    instance_fits(constants, clause, instance, count)
-}
-
-// .. and a literal of it
-fn literal_named(
-    constants: u8,
-    input: u8,
-    learned: u8,
-    c: u8,
-    clause: Clause,
-    l: u8,
-    instance: Instance,
-    count: u8,
-) -> bool
-    requires { ⌜ (input ≤ mostInput) × (learned ≤ mostLearned) ⌝ }
-    ensures { λ r. ⌜ r ≡ (leb count mostVariables && (between 1 (input + learned) c && (literalExists (clauseOf clause) l && instanceFits constants (clauseOf clause) (take count instance)))) ⌝ }
-{
-    if !literal_exists(clause, l) {
-        return false;
-    }
-    instance_named(constants, input, learned, c, clause, instance, count)
-}
-
-// "A step's reasons are tried in rising order": what is asked first and the number given where it is not so, and then what the rest gives
-fn refusal(ok: bool, number: u8, rest: u8) -> u8
-    ensures { λ n. ⌜ n ≡ cond ok rest number ⌝ }
-{
-    if ok {
-        return rest;
-    }
-    number
-}
-
-// ---- what the rules look at
-
-fn is_propagated(e: Entry) -> bool
-    ensures { λ r. ⌜ r ≡ isPropagated (e .kind) ⌝ }
-{
-    let kind = e.kind;
-    match kind {
-        Kind::Background => false,
-        Kind::Propagated => true,
-        Kind::Decided => false,
-    }
-}
-
-// Whether the entry's literal is the complement of the conflict's literal l
-fn is_complement(e: Entry, n: Instanced, l: u8) -> bool
-    ensures { λ r. ⌜ r ≡ sameLiteral (calculus.complement (e .literal)) (literalInstance (instancedOf n) l) ⌝ }
-{
-    let own = e.literal;
-    let g = complement(own);
-    let h = conflict_instance(n, l);
-    same_literal(g, h)
-}
-
-// Whether the entry is a literal whose complement is in the conflict
-fn in_conflict(n: Instanced, e: Entry) -> bool
-    ensures { λ r. ⌜ r ≡ complementInConflict (instancedOf n) (entryOf e ∷ []) ⌝ }
-{
-    let kind = e.kind;
-    let l = e.literal;
-    let g = complement(l);
-    match kind {
-        Kind::Background => false,
-        Kind::Propagated => has_instance(n, g),
-        Kind::Decided => has_instance(n, g),
-    }
-}
-
-// "A decision skipped lowers k by one."
-fn level_after(e: Entry, k: u8) -> u8
-    ensures { λ r. ⌜ r ≡ cond (isDecision (entryOf e)) (k - 1) k ⌝ }
-{
-    if !is_decision(e) {
-        return k;
-    }
-    if k == 0 {
-        return 0;
-    }
-    k - 1
-}
-
-// The conflict resolved at its literal l with the reason that the entry's step gives, of that step's clause
-fn resolvent(n: Instanced, l: u8, e: Entry, clause: Clause) -> Merged
-    ensures { λ r. ⌜ r ≡ resolved n (l - 1) (reasonOf clause (e .number - 1) (e .instance) .of) (reasonOf clause (e .number - 1) (e .instance) .own) ⌝ }
-{
-    let tau = e.instance;
-    let reason = reason_of(clause, index_of(e.number), tau);
-    let of = reason.of;
-    merging::resolve(n, index_of(l), of, reason.own)
-}
-
 // ---- answers
 
 // Refused: the run is handed back as it was.
@@ -267,6 +135,44 @@ fn refused_at(run: Run, number: u8, first: u8) -> Stepped
         };
     }
     refused(run, number)
+}
+
+// Accepted: `of` is the conflict that stands.
+fn taken_up(run: Run, of: Instanced) -> Stepped
+    ensures { λ a. ⌜ a ≡ takenUp run of ⌝ }
+{
+    let mut next = run;
+    next.stands = true;
+    next.conflict = of;
+    Stepped {
+        run: next,
+        number: 0,
+        place: 0,
+        learned: 0,
+    }
+}
+
+// Accepted: `own` is entry m, the new atoms follow it and are the last. `learned` is the number under which a clause was learned, or 0.
+fn appended(run: Run, m: usize, own: Entry, fresh: NewAtoms, learned: u8) -> Stepped
+    requires { ⌜ (fresh .count ≤ mostAtoms) × (m + fresh .count < mostEntries) ⌝ }
+    ensures { λ a. ⌜ a ≡ appendedAt run m own fresh learned ⌝ }
+{
+    let n = fresh.count as usize;
+    let mut next = run;
+    next.trail[m] = own;
+    let mut j = 0;
+    while j < n {
+        let a = fresh.at[j];
+        j += 1;
+        next.trail[m + j] = background_entry(a);
+    }
+    next.length = (m + n + 1) as u8;
+    Stepped {
+        run: next,
+        number: 0,
+        place: 0,
+        learned: learned,
+    }
 }
 
 // ---- what a step looks at
@@ -388,21 +294,8 @@ impl Run {
         if number != 0 {
             return refused_at(self, number, seen.first);
         }
-        let mut next = self;
-        next.trail[m] = propagated_entry(g, c, l, instance, count);
-        let mut j = 0;
-        while j < n {
-            let a = fresh.at[j];
-            j += 1;
-            next.trail[m + j] = background_entry(a);
-        }
-        next.length = (m + n + 1) as u8;
-        Stepped {
-            run: next,
-            number: 0,
-            place: 0,
-            learned: 0,
-        }
+        let e = propagated_entry(g, c, l, instance, count);
+        appended(self, m, e, fresh, 0)
     }
 
     // "2 Decide (clause, literal, sign, instance). No conflict. The atom of the literal, with the sign given, is undefined. It is appended, k
@@ -468,7 +361,7 @@ impl Run {
 
     // "3 Conflict (clause, instance). No conflict. All literals false; trail and clause atoms together possible. The clause becomes the
     // conflict."
-    pub fn conflict(mut self, looked: Looked, c: u8, instance: Instance, count: u8) -> Stepped
+    pub fn conflict(self, looked: Looked, c: u8, instance: Instance, count: u8) -> Stepped
         requires { ⌜ Handed self looked (Conflict c (exactly count 0 instance)) ⌝ }
         ensures { λ a. ⌜ Answered self looked (Conflict c (exactly count 0 instance)) a ⌝ }
     {
@@ -509,19 +402,12 @@ impl Run {
             clause: clause,
             instance: constants,
         };
-        self.stands = true;
-        self.conflict = of;
-        Stepped {
-            run: self,
-            number: 0,
-            place: 0,
-            learned: 0,
-        }
+        taken_up(self, of)
     }
 
     // "4 Resolve (literal L'). The last entry is a propagated literal, the complement of L'." It looks at the clause of the last entry's step,
     // from which the entry's reason follows.
-    pub fn resolve(mut self, looked: Looked, l: u8) -> Stepped
+    pub fn resolve(self, looked: Looked, l: u8) -> Stepped
         requires { ⌜ Handed self looked (Resolve l) ⌝ }
         ensures { λ a. ⌜ Answered self looked (Resolve l) a ⌝ }
     {
@@ -555,17 +441,11 @@ impl Run {
             return refused(self, number);
         }
         let of = merged.of;
-        self.conflict = of;
-        Stepped {
-            run: self,
-            number: 0,
-            place: 0,
-            learned: 0,
-        }
+        taken_up(self, of)
     }
 
     // "5 Factorize (two different literals with the same instance). Their variables are merged; the one with the larger number goes."
-    pub fn factorize(mut self, i: u8, j: u8) -> Stepped
+    pub fn factorize(self, i: u8, j: u8) -> Stepped
         requires { ⌜ Kept self ⌝ }
         ensures { λ a. ⌜ Answers self (Factorize i j) a ⌝ }
     {
@@ -584,13 +464,7 @@ impl Run {
         }
         let merged = merging::factorize(n, index_of(i), index_of(j));
         let of = merged.of;
-        self.conflict = of;
-        Stepped {
-            run: self,
-            number: 0,
-            place: 0,
-            learned: 0,
-        }
+        taken_up(self, of)
     }
 
     // "6 Skip. The last entry goes, if it is an atom or if its complement is not in the conflict. A decision skipped lowers k by one."
@@ -676,25 +550,13 @@ impl Run {
             k -= 1;
             self.trail[k] = blank;
         }
-        self.trail[kept] = propagated_entry(g, own, l, instance, c.variables);
-        let mut j = 0;
-        while j < m {
-            let a = fresh.at[j];
-            j += 1;
-            self.trail[kept + j] = background_entry(a);
-        }
         let none = no_instanced();
-        self.length = (kept + m + 1) as u8;
         self.level = at.others;
         self.learned += 1;
         self.stands = false;
         self.conflict = none;
-        Stepped {
-            run: self,
-            number: 0,
-            place: 0,
-            learned: own,
-        }
+        let e = propagated_entry(g, own, l, instance, c.variables);
+        appended(self, kept, e, fresh, own)
     }
 
     // "8 Grow (count). No conflict. So many constants are added at the end; trail empty, k is 0."

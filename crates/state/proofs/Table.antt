@@ -31,7 +31,8 @@ use Rattle.clauses.specs.declared.Clause.{Clause}
 use Rattle.rules.specs.Answers.{RunOf, Told}
 use Rattle.rules.specs.Looking.{heldAt, lastNamed, lookedAt, lookedIn, looksAt, numberLooked, slotOf}
 use Rattle.rules.specs.Records as records
-use Rattle.rules.specs.Records.{isPropagated, stepOf}
+use Rattle.asking.specs.Kinds.{isPropagated}
+use Rattle.rules.specs.Records.{stepOf}
 use Rattle.rules.specs.declared.Looked.{Looked}
 use Rattle.rules.specs.declared.Run.{Run}
 use Rattle.rules.specs.declared.Step.{Step}

@@ -9,9 +9,10 @@ use Rattle.rules.proofs.Run.conflict.Reads as reads
 use Rattle.rules.proofs.Run.conflict.Lts as lts
 use Rattle.clauses.proofs.no_literal.Reads as no-literal-reads
 use Rattle.instances.proofs.first_constants.Reads as first-constants-reads
-use Rattle.rules.proofs.instance_named.Reads as instance-named-reads
-use Rattle.rules.proofs.refusal.Reads as refusal-reads
+use Rattle.asking.proofs.instance_named.Reads as instance-named-reads
+use Rattle.asking.proofs.refusal.Reads as refusal-reads
 use Rattle.rules.proofs.refused_at.Reads as refused-at-reads
+use Rattle.rules.proofs.taken_up.Reads as taken-up-reads
 use Rattle.testing.proofs.gathered.Reads as gathered-reads
 use Rattle.testing.proofs.possible.Reads as possible-reads
 use Rattle.trail.specs.declared.LiteralsSeen.{LiteralsSeen}
@@ -47,7 +48,8 @@ returns c =
 
 returns-2 : tie.Need-returns-2
 returns-2 c =
-    let at-if1 = c .before in
+    let at-first-constants = c .before in
+    let at-if1 = at-first-constants .before in
     let at-refusal5 = at-if1 .before in
     let at-refusal4 = at-refusal5 .before in
     let at-refusal3 = at-refusal4 .before in
@@ -59,8 +61,8 @@ returns-2 c =
     let at-no-literal = at-literals-seen .before in
     let at-instance-named = at-no-literal .before .before in
     let first = at-instance-named .before .before in
-    λ s R looks. conflict-told R (first .args .looked) _ _ (first .args .instance) (let g = first .good .1 .1 .1 .0 in search needs) looks _ (at-instance-named .instance-named .ensures) (at-no-literal .no-literal .result) _ (ap (λ (u : LiteralsSeen). u .first) (at-literals-seen .literals-seen .ensures)) _ (at-gathered .gathered .ensures) (at-possible .possible .result) (at-possible .possible .ensures)
-    (at-refusal .refusal .ensures) (at-refusal2 .refusal2 .ensures) (at-refusal3 .refusal3 .ensures) (at-refusal4 .refusal4 .ensures) (at-refusal5 .refusal5 .ensures) (at-if1 .if1 .left) _ (c .first-constants .ensures)
+    rw (c .taken-up .ensures) (λ s R looks. conflict-told R (first .args .looked) _ _ (first .args .instance) (let g = first .good .1 .1 .1 .0 in search needs) looks _ (at-instance-named .instance-named .ensures) (at-no-literal .no-literal .result) _ (ap (λ (u : LiteralsSeen). u .first) (at-literals-seen .literals-seen .ensures)) _ (at-gathered .gathered .ensures) (at-possible .possible .result) (at-possible .possible .ensures)
+    (at-refusal .refusal .ensures) (at-refusal2 .refusal2 .ensures) (at-refusal3 .refusal3 .ensures) (at-refusal4 .refusal4 .ensures) (at-refusal5 .refusal5 .ensures) (at-if1 .if1 .left) _ (at-first-constants .first-constants .ensures))
 
 pub conflict-spec : {M : Type 1} → statement M
 conflict-spec =
@@ -78,5 +80,6 @@ conflict-spec =
     (λ c κs. search needs)
     (λ c κs. search needs)
     returns
+    (λ c κs. search needs)
     (λ c κs. search needs)
     returns-2)

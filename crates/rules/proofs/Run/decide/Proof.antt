@@ -10,8 +10,8 @@ use Rattle.rules.proofs.Run.decide.Tie as tie
 use Rattle.rules.proofs.Run.decide.Reads as reads
 use Rattle.rules.proofs.Run.decide.Lts as lts
 use Rattle.instances.proofs.decided_literal.Reads as decided-literal-reads
-use Rattle.rules.proofs.literal_named.Reads as literal-named-reads
-use Rattle.rules.proofs.refusal.Reads as refusal-reads
+use Rattle.asking.proofs.literal_named.Reads as literal-named-reads
+use Rattle.asking.proofs.refusal.Reads as refusal-reads
 use Rattle.rules.proofs.refused.Reads as refused-reads
 use Rattle.trail.proofs.decided_entry.Reads as decided-entry-reads
 use Rattle.trail.proofs.undefined.Reads as undefined-reads

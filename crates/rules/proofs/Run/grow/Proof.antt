@@ -5,7 +5,7 @@ use Rattle.rules.proofs.Run.grow.Statement.{statement}
 use Rattle.rules.proofs.Run.grow.Tie as tie
 use Rattle.rules.proofs.Run.grow.Reads as reads
 use Rattle.rules.proofs.Run.grow.Lts as lts
-use Rattle.rules.proofs.refusal.Reads as refusal-reads
+use Rattle.asking.proofs.refusal.Reads as refusal-reads
 use Rattle.rules.proofs.refused.Reads as refused-reads
 use Rattle.trail.proofs.empty_trail.Reads as empty-trail-reads
 

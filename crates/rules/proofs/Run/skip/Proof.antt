@@ -1,5 +1,4 @@
 use native.Mathlib.Omega.{arith}
-use mathlib.Core.Path.{sym, _∙_}
 use Rattle.rules.proofs.Runs.{kept-small}
 use Rattle.rules.proofs.Simple.{skip-refused, skip-passed, skip-accepted}
 use borrow.Author.Needs.{needs}
@@ -7,10 +6,10 @@ use Rattle.rules.proofs.Run.skip.Statement.{statement}
 use Rattle.rules.proofs.Run.skip.Tie as tie
 use Rattle.rules.proofs.Run.skip.Reads as reads
 use Rattle.rules.proofs.Run.skip.Lts as lts
-use Rattle.rules.proofs.in_conflict.Reads as in-conflict-reads
+use Rattle.asking.proofs.in_conflict.Reads as in-conflict-reads
 use Rattle.rules.proofs.last_slot.Reads as last-slot-reads
-use Rattle.rules.proofs.level_after.Reads as level-after-reads
-use Rattle.rules.proofs.refusal.Reads as refusal-reads
+use Rattle.asking.proofs.level_after.Reads as level-after-reads
+use Rattle.asking.proofs.refusal.Reads as refusal-reads
 use Rattle.rules.proofs.refused.Reads as refused-reads
 use Rattle.trail.proofs.blank_entry.Reads as blank-entry-reads
 

@@ -1,6 +1,6 @@
 use borrow.Author.Needs.{needs}
-use Rattle.rules.proofs.in_conflict.Statement.{statement}
-use Rattle.rules.proofs.in_conflict.Tie as tie
+use Rattle.asking.proofs.in_conflict.Statement.{statement}
+use Rattle.asking.proofs.in_conflict.Tie as tie
 
 returns : tie.Need-returns
 returns c = rw (c .enum-told .given .1)

@@ -1,13 +1,12 @@
 use borrow.Author.Tests.{le-leb, lt-leb, not-false, not-true}
 use mathlib.Core.Path.{sym, _∙_}
-use native.Mathlib.Omega.{arith}
 use borrow.Author.Needs.{needs}
-use Rattle.rules.proofs.instance_named.Statement.{statement}
-use Rattle.rules.proofs.instance_named.Tie as tie
-use Rattle.rules.proofs.instance_named.Reads as reads
-use Rattle.rules.proofs.instance_named.Lts as lts
+use Rattle.asking.proofs.instance_named.Statement.{statement}
+use Rattle.asking.proofs.instance_named.Tie as tie
+use Rattle.asking.proofs.instance_named.Reads as reads
+use Rattle.asking.proofs.instance_named.Lts as lts
 use Rattle.instances.proofs.instance_fits.Reads as instance-fits-reads
-use Rattle.rules.proofs.clause_exists.Reads as clause-exists-reads
+use Rattle.asking.proofs.clause_exists.Reads as clause-exists-reads
 
 returns : tie.Need-returns
 returns c = simp (lt-leb _ 12 (c .if1 .taken))

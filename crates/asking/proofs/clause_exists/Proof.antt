@@ -1,7 +1,7 @@
 use borrow.Author.Tests.{le-leb, lt-leb}
 use borrow.Author.Needs.{needs}
-use Rattle.rules.proofs.clause_exists.Statement.{statement}
-use Rattle.rules.proofs.clause_exists.Tie as tie
+use Rattle.asking.proofs.clause_exists.Statement.{statement}
+use Rattle.asking.proofs.clause_exists.Tie as tie
 
 returns : tie.Need-returns
 returns c = simp (lt-leb _ _ (c .if1 .taken))

@@ -1,7 +1,6 @@
 use borrow.Author.Tests.{not-false, not-true}
-use mathlib.Core.Path.{sym, ap, _∙_}
-use mathlib.Core.Bool.{Bool, _&&_}
-use Rattle.rules.proofs.Asking.{no-literal}
+use mathlib.Core.Path.{sym, _∙_}
+use Rattle.asking.proofs.Literals.{no-literal}
 use Prim.Native.Nat.{_+_}
 use lib.Dec.{leb}
 use lib.ListN.{take}
@@ -10,12 +9,12 @@ use Rattle.calculus.specs.Checks.{between}
 use Rattle.calculus.specs.Rules.{instanceFits}
 use Rattle.clauses.specs.Records.{clauseOf}
 use borrow.Author.Needs.{needs}
-use Rattle.rules.proofs.literal_named.Statement.{statement}
-use Rattle.rules.proofs.literal_named.Tie as tie
-use Rattle.rules.proofs.literal_named.Reads as reads
-use Rattle.rules.proofs.literal_named.Lts as lts
+use Rattle.asking.proofs.literal_named.Statement.{statement}
+use Rattle.asking.proofs.literal_named.Tie as tie
+use Rattle.asking.proofs.literal_named.Reads as reads
+use Rattle.asking.proofs.literal_named.Lts as lts
 use Rattle.instances.proofs.literal_exists.Reads as literal-exists-reads
-use Rattle.rules.proofs.instance_named.Reads as instance-named-reads
+use Rattle.asking.proofs.instance_named.Reads as instance-named-reads
 
 returns : tie.Need-returns
 returns c = no-literal (leb (c .before .before .args .count) mostVariables) (between 1 (c .before .before .args .input + c .before .before .args .learned) (c .before .before .args .c)) (instanceFits (c .before .before .args .constants) (clauseOf (c .before .before .args .clause)) (take (c .before .before .args .count) (c .before .before .args .instance))) (sym (c .before .literal-exists .ensures) ∙ not-true _ (c .if1 .taken))

@@ -1,6 +1,6 @@
 use borrow.Author.Needs.{needs}
-use Rattle.rules.proofs.is_complement.Statement.{statement}
-use Rattle.rules.proofs.is_complement.Tie as tie
+use Rattle.asking.proofs.is_complement.Statement.{statement}
+use Rattle.asking.proofs.is_complement.Tie as tie
 
 returns : tie.Need-returns
 returns c = simp (c .same-literal .ensures, c .before .before .complement .ensures, c .before .conflict-instance .ensures)

@@ -2,8 +2,8 @@ use mathlib.Core.Path.{sym, _∙_}
 use native.Mathlib.Omega.{arith}
 use borrow.Author.Tests.{not-false, not-true}
 use borrow.Author.Needs.{needs}
-use Rattle.rules.proofs.level_after.Statement.{statement}
-use Rattle.rules.proofs.level_after.Tie as tie
+use Rattle.asking.proofs.level_after.Statement.{statement}
+use Rattle.asking.proofs.level_after.Tie as tie
 
 returns : tie.Need-returns
 returns c = simp (sym (c .before .is-decision .ensures) ∙ not-true _ (c .if1 .taken))

@@ -1,6 +1,6 @@
 use borrow.Author.Needs.{needs}
-use Rattle.rules.proofs.resolvent.Statement.{statement}
-use Rattle.rules.proofs.resolvent.Tie as tie
+use Rattle.asking.proofs.resolvent.Statement.{statement}
+use Rattle.asking.proofs.resolvent.Tie as tie
 
 returns : tie.Need-returns
 returns c = simp (c .resolve .ensures, c .before .before .before .reason-of .ensures, c .before .before .before .before .index-of .ensures, c .before .index-of2 .ensures)

@@ -1,0 +1,2 @@
+-- Why what is asked is what the calculus asks.
+pub mod Literals

@@ -1,0 +1,10 @@
+-- Which entries are propagated literals.
+use mathlib.Core.Bool.{Bool, true, false}
+use Rattle.trail.specs.declared.Kind.{Kind}
+use Rattle.trail.specs.declared.Kind.the-variants.{Background, Propagated, Decided}
+
+-- An entry of this kind is a propagated literal.
+abbrev pub isPropagated : Kind → Bool
+isPropagated Background = false
+isPropagated Propagated = true
+isPropagated Decided = false

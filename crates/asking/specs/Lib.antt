@@ -1,0 +1,2 @@
+-- What is asked of an entry.
+pub mod Kinds
