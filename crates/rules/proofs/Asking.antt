@@ -4,11 +4,13 @@ use mathlib.Core.Bool.{Bool, _&&_, cond, false, not, true}
 use Prim.Native.Nat.{ℕ, _<_, _≤_}
 use native.Mathlib.Omega.{arith}
 use lib.Dec.{T, eqb}
+use borrow.Author.Tests.{eqb-false, eqb-true}
 use Rattle.rules.specs.Answers.{Told}
 use Rattle.basis.specs.Refusals.{notFalse}
 use Rattle.lists.proofs.Tests.{F→eq}
 use Rattle.rules.specs.Records.{refusedAt, refusedBy}
 use Rattle.rules.specs.declared.Run.{Run}
+use Rattle.rules.specs.declared.Stepped.{Stepped}
 use Rattle.calculus.specs.States.{State, Step}
 
 -- It is not so, and its number is given, or it is so, and the rest tells.
@@ -37,6 +39,22 @@ other-told {s} {x} {r} {m = m} p e h t = subst (At s x r p) (sym e) (subst (λ (
 
 pub place-told : {s : State} {x : Step} {r : Run} {n : ℕ} (p : ℕ) → n ≡ notFalse → Told s x (refusedAt r p) → Told s x (cond (eqb n notFalse) (refusedAt r p) (refusedBy r n))
 place-told {s} {x} {r} p e t = subst (At s x r p) (sym e) t
+
+-- A refusal that names nothing, whatever its number
+pub no-place : {s : State} {x : Step} {r : Run} {n : ℕ} → Told s x (refusedBy r n) → Told s x (cond (eqb n notFalse) (refusedAt r 0) (refusedBy r n))
+no-place {s} {x} {r} {n} t = go (eqb n notFalse) refl
+  where
+    go : (b : Bool) → eqb n notFalse ≡ b → Told s x (cond (eqb n notFalse) (refusedAt r 0) (refusedBy r n))
+    go true h = subst (λ (b : Bool). Told s x (cond b (refusedAt r 0) (refusedBy r n))) (sym h) (subst (λ (k : ℕ). Told s x (refusedBy r k)) (eqb-true n notFalse h) t)
+    go false h = subst (λ (b : Bool). Told s x (cond b (refusedAt r 0) (refusedBy r n))) (sym h) t
+
+-- Accepted where the number is 0, and else refused
+pub either-told : {s : State} {x : Step} {a b d : Stepped} (n : ℕ) → a ≡ cond (eqb n 0) b d → (n ≡ 0 → Told s x b) → (¬ (n ≡ 0) → Told s x d) → Told s x a
+either-told {s} {x} {a} {b} {d} n e f g = go (eqb n 0) refl
+  where
+    go : (c : Bool) → eqb n 0 ≡ c → Told s x a
+    go true h = subst (Told s x) (sym (e ∙ ap (λ (c : Bool). cond c b d) h)) (f (eqb-true n 0 h))
+    go false h = subst (Told s x) (sym (e ∙ ap (λ (c : Bool). cond c b d) h)) (g (eqb-false n 0 h))
 
 -- A number that is none, and one that is some
 pub none : (p : ℕ) → p ≡ 0 → p ≤ 0

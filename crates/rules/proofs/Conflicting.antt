@@ -8,7 +8,7 @@ use native.Mathlib.Omega.{arith}
 use lib.Dec.{T, eqb, leb}
 use lib.ListN.{length, take}
 use borrow.Author.Tests.{eqb-false, eqb-true, leb-false, leb-true, not-false, not-true}
-use Rattle.rules.proofs.Asking.{and-so, asked, none, other-told, passed, place-told, positive}
+use Rattle.rules.proofs.Asking.{and-so, asked, either-told, none, other-told, passed, place-told, positive}
 use Rattle.calculus.specs.Clauses as calculus
 use Rattle.rules.specs.Looking.{lookedAt}
 use Rattle.rules.specs.Records.{refusedAt, refusedBy, takenUp}
@@ -118,7 +118,7 @@ module _ {r : Run} {s : State} (R : RunOf r s) (k : Looked) (c count : ℕ) (ι 
     is-named : leb count mostVariables ≡ true → {q : Bool} → a ≡ q → (between 1 (r .input + r .learned) c && instanceFits (r .constants) (clauseOf (k .clause)) (take count ι)) ≡ q
     is-named t e = and-so (leb count mostVariables) (between 1 (r .input + r .learned) c && instanceFits (r .constants) (clauseOf (k .clause)) (take count ι)) t a-is e
 
-    pub conflict-refused : ¬ (n ≡ 0) → Told s (Conflict c (exactly count 0 ι)) (cond (eqb n notFalse) (refusedAt r p) (refusedBy r n))
+    conflict-refused : ¬ (n ≡ 0) → Told s (Conflict c (exactly count 0 ι)) (cond (eqb n notFalse) (refusedAt r p) (refusedBy r n))
     conflict-refused h =
         asked (leb count mostVariables) _ _ e₀ (λ f q. other-told p q tt (conflict-long (leb-false count mostVariables f))) (λ t₀ q₀. let h₁ = leb-true count mostVariables t₀ in
         asked (not (r .stands)) _ _ e₁ (λ f q. other-told p (q₀ ∙ q) tt (conflict-standing h₁ (not-false (r .stands) f))) (λ t₁ q₁. let h₂ = not-true (r .stands) t₁ in
@@ -127,7 +127,7 @@ module _ {r : Run} {s : State} (R : RunOf r s) (k : Looked) (c count : ℕ) (ι 
         asked b _ _ e₄ (λ f q. other-told p (q₀ ∙ q₁ ∙ q₂ ∙ q₃ ∙ q) tt (conflict-impossible h₁ h₂ handed (is-named t₀ t₂) z p p-is h₄ w G b d f))
         (λ t₄ q₄. absurd (h (q₀ ∙ q₁ ∙ q₂ ∙ q₃ ∙ q₄)))))))
 
-    pub conflict-told : n ≡ 0 → (σ : List ℕ) → σ ≡ exactly mostVariables 0 (take count ι)
+    conflict-told : n ≡ 0 → (σ : List ℕ) → σ ≡ exactly mostVariables 0 (take count ι)
         → Told s (Conflict c (exactly count 0 ι)) (takenUp r (record { clause = k .clause; instance = σ }))
     conflict-told o σ q =
         let (t₀, z₁) = passed (leb count mostVariables) _ _ e₀ tt o in
@@ -136,3 +136,7 @@ module _ {r : Run} {s : State} (R : RunOf r s) (k : Looked) (c count : ℕ) (ι 
         let (t₃, z₄) = passed (eqb p 0) _ _ e₃ tt z₃ in
         let (t₄, z₅) = passed b _ _ e₄ tt z₄ in
         conflict-accepted (leb-true count mostVariables t₀) (not-true (r .stands) t₁) handed (is-named t₀ t₂) z p p-is (none p (eqb-true p 0 t₃)) w G b d t₄ σ q
+
+    pub conflict-answered : (σ : List ℕ) → σ ≡ exactly mostVariables 0 (take count ι) → {o : Stepped}
+        → o ≡ cond (eqb n 0) (takenUp r (record { clause = k .clause; instance = σ })) (cond (eqb n notFalse) (refusedAt r p) (refusedBy r n)) → Told s (Conflict c (exactly count 0 ι)) o
+    conflict-answered σ q e = either-told n e (λ z. conflict-told z σ q) conflict-refused

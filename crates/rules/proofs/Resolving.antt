@@ -5,20 +5,21 @@ use mathlib.Core.Option.{some}
 use mathlib.Core.Bool.{Bool, cond, false, true}
 use Prim.Native.Nat.{_-_, _<_, _≤_, suc, zero, ℕ}
 use native.Mathlib.Omega.{arith}
-use lib.Dec.{T, ltb}
+use lib.Dec.{T, eqb, ltb}
 use borrow.Author.Tests.{ltb-false, ltb-true}
 use lib.ListN.{getD, length, take}
 use lib.Seq.{take-length}
 use Rattle.basis.specs.Limits.{mostLiterals}
-use Rattle.basis.specs.Refusals.{noEntry, noRoom, noSuch, wrongLiteral, wrongMoment}
+use Rattle.basis.specs.Refusals.{noEntry, noRoom, noSuch, notFalse, wrongLiteral, wrongMoment}
 use Rattle.basis.specs.declared.Literal.{Literal}
 use Rattle.lists.proofs.Tests.{and-l, and-r}
 use Rattle.rules.specs.Answers.{RunOf, Told}
 use Rattle.rules.specs.Looking.{heldAt, lastNamed, lookedAt}
-use Rattle.rules.specs.Records.{packedRun, refusedBy, takenUp}
+use Rattle.rules.specs.Records.{packedRun, refusedAt, refusedBy, takenUp}
 use Rattle.asking.specs.Kinds.{isPropagated}
 use Rattle.rules.specs.declared.Looked.{Looked}
 use Rattle.rules.specs.declared.Run.{Run}
+use Rattle.rules.specs.declared.Stepped.{Stepped}
 use Rattle.calculus.proofs.Class.{limited-of, placed}
 use Rattle.calculus.proofs.Derived.{reason-sized}
 use Rattle.calculus.proofs.Instances.{Sized}
@@ -39,7 +40,7 @@ use Rattle.merging.proofs.Own.{stay-few}
 use Rattle.merging.proofs.Whole.{merge-limits}
 use Rattle.merging.specs.Results.{reasonOf, resolved}
 use Rattle.rules.proofs.Reached.{AllFine, Fine}
-use Rattle.rules.proofs.Asking.{as-told, asked, passed}
+use Rattle.rules.proofs.Asking.{as-told, asked, either-told, no-place, passed}
 use Rattle.rules.proofs.Naming.{looks-named}
 use Rattle.rules.proofs.Runs.{conflict-is, conflict-says, fine, fine-conflict, last-shown, none-shown, stands-shown, with-conflict, within}
 use Rattle.rules.proofs.Told.{accepted-as, nothing-asked, refused}
@@ -211,7 +212,7 @@ module _ {r : Run} {s : State} (R : RunOf r s) (k : Looked) (l : ℕ) where
       (m-is : m ≡ resolved (r .conflict) (l - 1) (reasonOf (k .clause) (getD (r .trail) j pastEnd .number - 1) (getD (r .trail) j pastEnd .instance) .of) (reasonOf (k .clause) (getD (r .trail) j pastEnd .number - 1) (getD (r .trail) j pastEnd .instance) .own))
       {n n₁ n₂ n₃ n₄ n₅ : ℕ} (e₅ : n₅ ≡ cond (m .fits) 0 noRoom) (e₄ : n₄ ≡ cond d n₅ wrongLiteral) (e₃ : n₃ ≡ cond b n₄ noEntry) (e₂ : n₂ ≡ cond (ltb 0 (r .length)) n₃ noEntry) (e₁ : n₁ ≡ cond a n₂ noSuch)
       (e₀ : n ≡ cond (r .stands) n₁ wrongMoment) where
-    pub resolve-refused : ¬ (n ≡ 0) → Told s (Resolve l) (refusedBy r n)
+    resolve-refused : ¬ (n ≡ 0) → Told s (Resolve l) (refusedBy r n)
     resolve-refused h =
         asked (r .stands) _ _ e₀ (λ f q. as-told q (resolve-no-conflict f)) (λ t₀ q₀.
         asked a _ _ e₁ (λ f q. as-told (q₀ ∙ q) (resolve-no-such t₀ (sym a-is ∙ f))) (λ t₁ q₁.
@@ -221,7 +222,7 @@ module _ {r : Run} {s : State} (R : RunOf r s) (k : Looked) (l : ℕ) where
         asked (m .fits) _ _ e₅ (λ f q. as-told (q₀ ∙ q₁ ∙ q₂ ∙ q₃ ∙ q₄ ∙ q) (resolve-no-room t₀ (sym a-is ∙ t₁) (ltb-true 0 (r .length) t₂) j j-is (sym b-is ∙ t₃) (sym d-is ∙ t₄) handed m m-is f))
         (λ t₅ q₅. absurd (h (q₀ ∙ q₁ ∙ q₂ ∙ q₃ ∙ q₄ ∙ q₅))))))))
 
-    pub resolve-told : n ≡ 0 → Told s (Resolve l) (takenUp r (m .of))
+    resolve-told : n ≡ 0 → Told s (Resolve l) (takenUp r (m .of))
     resolve-told o =
         let (t₀, z₁) = passed (r .stands) _ _ e₀ tt o in
         let (t₁, z₂) = passed a _ _ e₁ tt z₁ in
@@ -230,3 +231,6 @@ module _ {r : Run} {s : State} (R : RunOf r s) (k : Looked) (l : ℕ) where
         let (t₄, z₅) = passed d _ _ e₄ tt z₄ in
         let (t₅, z₆) = passed (m .fits) _ _ e₅ tt z₅ in
         resolve-accepted t₀ (sym a-is ∙ t₁) (ltb-true 0 (r .length) t₂) j j-is (sym b-is ∙ t₃) (sym d-is ∙ t₄) handed m m-is t₅
+
+    pub resolve-answered : {o : Stepped} → o ≡ cond (eqb n 0) (takenUp r (m .of)) (cond (eqb n notFalse) (refusedAt r 0) (refusedBy r n)) → Told s (Resolve l) o
+    resolve-answered e = either-told n e resolve-told (λ h. no-place (resolve-refused h))

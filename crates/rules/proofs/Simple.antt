@@ -9,10 +9,11 @@ use lib.Dec.{eqb, leb, le→leb, ltb}
 use lib.ListN.{getD, length, set}
 use borrow.Author.Tests.{le-leb, leb-false, leb-true, lt-leb, ltb-false, ltb-true, not-false, not-true}
 use Rattle.basis.specs.Limits.{mostConstants}
-use Rattle.basis.specs.Refusals.{noEntry, noRoom, noSuch, wrongLiteral, wrongMoment}
+use Rattle.basis.specs.Refusals.{noEntry, noRoom, noSuch, notFalse, wrongLiteral, wrongMoment}
 use Rattle.rules.specs.Answers.{RunOf, Told}
-use Rattle.rules.specs.Records.{refusedBy, takenUp}
+use Rattle.rules.specs.Records.{refusedAt, refusedBy, takenUp}
 use Rattle.rules.specs.declared.Run.{Run}
+use Rattle.rules.specs.declared.Stepped.{Stepped}
 use Rattle.calculus.proofs.Class.{factored-limited}
 use Rattle.calculus.specs.Class.{Limited}
 use Rattle.calculus.specs.Clauses.{sameLiteral}
@@ -27,7 +28,7 @@ use Rattle.joining.specs.Fitted.{fitted}
 use Rattle.joining.specs.declared.Merged.{Merged}
 use Rattle.merging.specs.Results.{factorized}
 use Rattle.rules.proofs.Runs.{accepting, conflict-is, conflict-says, constants-is, fine, fine-conflict, input-is, last-shown, learned-is, level-is, no-conflict, none-shown, packed-as, remade, stands-is, stands-shown, stored, with-conflict, within}
-use Rattle.rules.proofs.Asking.{as-told, asked, passed}
+use Rattle.rules.proofs.Asking.{as-told, asked, either-told, no-place, passed}
 use Rattle.rules.proofs.Told.{accepted-as, nothing-asked, refused}
 use Rattle.trail.proofs.Stored.{dropped, stored-none, stored-own}
 use Rattle.trail.specs.Entries.{Stored, blankEntry, entryOf, packedTrail, pastEnd, trailOf}
@@ -155,7 +156,7 @@ module _ {r : Run} {s : State} (R : RunOf r s) (i j : ℕ) where
       factorize-differ : Same i j (instancedOf (r .conflict)) ≡ false → Told s (Factorize i j) (refusedBy r wrongLiteral)
       factorize-differ f = refused R (Factorize i j) wrongLiteral tt tt (λ a. simp (stands-shown R e, shown (Two i j) h, shown (Same i j) f))
 
-      pub factorize-accepted : Same i j (instancedOf (r .conflict)) ≡ true → (m : Merged) → m ≡ factorized (r .conflict) (i - 1) (j - 1)
+      factorize-accepted : Same i j (instancedOf (r .conflict)) ≡ true → (m : Merged) → m ≡ factorized (r .conflict) (i - 1) (j - 1)
           → Told s (Factorize i j) (takenUp r (m .of))
       factorize-accepted f m g = accepted-as R (Factorize i j) true (nothing-asked s (Factorize i j) refl)
           (rw (stands-shown R e) tt, (rw (shown (Two i j) h) tt, (rw (shown (Same i j) f) tt, tt)))
@@ -166,16 +167,19 @@ module _ {r : Run} {s : State} (R : RunOf r s) (i j : ℕ) where
 
   module _ (a b : Bool) (a-is : a ≡ Two i j (instancedOf (r .conflict))) (b-is : b ≡ Same i j (instancedOf (r .conflict))) {k k₁ k₂ : ℕ}
       (e₂ : k₂ ≡ cond b 0 wrongLiteral) (e₁ : k₁ ≡ cond a k₂ noSuch) (e₀ : k ≡ cond (r .stands) k₁ wrongMoment) where
-    pub factorize-refused : ¬ (k ≡ 0) → Told s (Factorize i j) (refusedBy r k)
+    factorize-refused : ¬ (k ≡ 0) → Told s (Factorize i j) (refusedBy r k)
     factorize-refused h =
         asked (r .stands) _ _ e₀ (λ f q. as-told q (factorize-no-conflict f)) (λ t₀ q₀.
         asked a _ _ e₁ (λ f q. as-told (q₀ ∙ q) (factorize-no-such t₀ (sym a-is ∙ f))) (λ t₁ q₁.
         asked b _ _ e₂ (λ f q. as-told (q₀ ∙ q₁ ∙ q) (factorize-differ t₀ (sym a-is ∙ t₁) (sym b-is ∙ f)))
         (λ t₂ q₂. absurd (h (q₀ ∙ q₁ ∙ q₂)))))
 
-    pub factorize-passed : k ≡ 0 → (r .stands ≡ true) × (Two i j (instancedOf (r .conflict)) ≡ true) × (Same i j (instancedOf (r .conflict)) ≡ true)
+    factorize-passed : k ≡ 0 → (r .stands ≡ true) × (Two i j (instancedOf (r .conflict)) ≡ true) × (Same i j (instancedOf (r .conflict)) ≡ true)
     factorize-passed o =
         let (t₀, z₁) = passed (r .stands) _ _ e₀ tt o in
         let (t₁, z₂) = passed a _ _ e₁ tt z₁ in
         let (t₂, z₃) = passed b _ _ e₂ tt z₂ in
         (t₀, sym a-is ∙ t₁, sym b-is ∙ t₂)
+
+    pub factorize-answered : (m : Merged) → m ≡ factorized (r .conflict) (i - 1) (j - 1) → {o : Stepped} → o ≡ cond (eqb k 0) (takenUp r (m .of)) (cond (eqb k notFalse) (refusedAt r 0) (refusedBy r k)) → Told s (Factorize i j) o
+    factorize-answered m g e = either-told k e (λ z. let (t₀, t₁, t₂) = factorize-passed z in factorize-accepted t₀ t₁ t₂ m g) (λ h. no-place (factorize-refused h))

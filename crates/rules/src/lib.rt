@@ -137,10 +137,13 @@ fn refused_at(run: Run, number: u8, first: u8) -> Stepped
     refused(run, number)
 }
 
-// Accepted: `of` is the conflict that stands.
-fn taken_up(run: Run, of: Instanced) -> Stepped
-    ensures { λ a. ⌜ a ≡ takenUp run of ⌝ }
+// Accepted where the number is 0: `of` is the conflict that stands; else refused by the number. `first` is the place of 12.
+fn taken_up(run: Run, number: u8, first: u8, of: Instanced) -> Stepped
+    ensures { λ a. ⌜ a ≡ cond (eqb number 0) (takenUp run of) (cond (eqb number notFalse) (refusedAt run first) (refusedBy run number)) ⌝ }
 {
+    if number != 0 {
+        return refused_at(run, number, first);
+    }
     let mut next = run;
     next.stands = true;
     next.conflict = of;
@@ -366,6 +369,11 @@ impl Run {
         ensures { λ a. ⌜ Answered self looked (Conflict c (exactly count 0 instance)) a ⌝ }
     {
         let clause = looked.clause;
+        let constants = first_constants(instance, count);
+        let of = Instanced {
+            clause: clause,
+            instance: constants,
+        };
         let named = instance_named(
             self.constants,
             self.input,
@@ -394,15 +402,7 @@ impl Run {
                 ),
             ),
         );
-        if number != 0 {
-            return refused_at(self, number, first);
-        }
-        let constants = first_constants(instance, count);
-        let of = Instanced {
-            clause: clause,
-            instance: constants,
-        };
-        taken_up(self, of)
+        taken_up(self, number, first, of)
     }
 
     // "4 Resolve (literal L'). The last entry is a propagated literal, the complement of L'." It looks at the clause of the last entry's step,
@@ -416,6 +416,7 @@ impl Run {
         let e = self.trail[last_slot(self.length)];
         let clause = looked.clause;
         let merged = resolvent(n, l, e, clause);
+        let of = merged.of;
         let number = refusal(
             self.stands,
             WRONG_MOMENT,
@@ -437,11 +438,7 @@ impl Run {
                 ),
             ),
         );
-        if number != 0 {
-            return refused(self, number);
-        }
-        let of = merged.of;
-        taken_up(self, of)
+        taken_up(self, number, 0, of)
     }
 
     // "5 Factorize (two different literals with the same instance). Their variables are merged; the one with the larger number goes."
@@ -450,6 +447,8 @@ impl Run {
         ensures { λ a. ⌜ Answers self (Factorize i j) a ⌝ }
     {
         let n = self.conflict;
+        let merged = merging::factorize(n, index_of(i), index_of(j));
+        let of = merged.of;
         let number = refusal(
             self.stands,
             WRONG_MOMENT,
@@ -459,12 +458,7 @@ impl Run {
                 refusal(same_instance(n, i, j), WRONG_LITERAL, 0),
             ),
         );
-        if number != 0 {
-            return refused(self, number);
-        }
-        let merged = merging::factorize(n, index_of(i), index_of(j));
-        let of = merged.of;
-        taken_up(self, of)
+        taken_up(self, number, 0, of)
     }
 
     // "6 Skip. The last entry goes, if it is an atom or if its complement is not in the conflict. A decision skipped lowers k by one."

@@ -1,30 +1,25 @@
 use native.Mathlib.Omega.{arith}
 use Rattle.rules.proofs.Runs.{kept-small}
-use Rattle.rules.proofs.Resolving.{resolve-refused, resolve-told}
+use Rattle.rules.proofs.Resolving.{resolve-answered}
 use borrow.Author.Needs.{needs}
 use Rattle.rules.proofs.Run.resolve.Statement.{statement}
 use Rattle.rules.proofs.Run.resolve.Tie as tie
 use Rattle.rules.proofs.Run.resolve.Reads as reads
 use Rattle.rules.proofs.Run.resolve.Lts as lts
-use Rattle.instances.proofs.literal_exists.Reads as literal-exists-reads
 use Rattle.asking.proofs.is_complement.Reads as is-complement-reads
 use Rattle.asking.proofs.is_propagated.Reads as is-propagated-reads
-use Rattle.rules.proofs.last_slot.Reads as last-slot-reads
 use Rattle.asking.proofs.refusal.Reads as refusal-reads
-use Rattle.rules.proofs.refused.Reads as refused-reads
 use Rattle.asking.proofs.resolvent.Reads as resolvent-reads
+use Rattle.instances.proofs.literal_exists.Reads as literal-exists-reads
+use Rattle.rules.proofs.last_slot.Reads as last-slot-reads
 use Rattle.rules.proofs.taken_up.Reads as taken-up-reads
 
 element-copy-out-e : tie.Need-element-copy-out-e
 element-copy-out-e c = omega (arith, c .last-slot .ensures, kept-small (c .before .before .before .pre .0, c .before .before .before .pre .1) .few-entries)
 
 returns : tie.Need-returns
-returns c = rw (c .refused .ensures) (λ s R looks. resolve-refused R (c .before .before .before .before .before .before .before .before .before .before .before .before .before .before .before .before .before .args .looked) _ looks _ (c .before .before .before .before .before .before .before .before .before .before .before .before .before .before .last-slot .ensures) _ _ _ (c .before .before .before .before .before .before .before .before .before .before .literal-exists .ensures) (c .before .before .before .before .before .before .before .before .before .is-propagated .ensures) (c .before .before .before .before .before .before .before .before .is-complement .ensures) _ (c .before .before .before .before .before .before .before .before .before .before .before .resolvent .ensures)
-    (c .before .before .before .before .before .before .before .refusal .ensures) (c .before .before .before .before .before .before .refusal2 .ensures) (c .before .before .before .before .before .refusal3 .ensures) (c .before .before .before .before .refusal4 .ensures) (c .before .before .before .refusal5 .ensures) (c .before .before .refusal6 .ensures) (c .before .if1 .taken))
-
-returns-2 : tie.Need-returns-2
-returns-2 c = rw (c .taken-up .ensures) (λ s R looks. resolve-told R (c .before .before .before .before .before .before .before .before .before .before .before .before .before .before .before .before .before .before .args .looked) _ looks _ (c .before .before .before .before .before .before .before .before .before .before .before .before .before .before .before .last-slot .ensures) _ _ _ (c .before .before .before .before .before .before .before .before .before .before .before .literal-exists .ensures) (c .before .before .before .before .before .before .before .before .before .before .is-propagated .ensures) (c .before .before .before .before .before .before .before .before .before .is-complement .ensures) _ (c .before .before .before .before .before .before .before .before .before .before .before .before .resolvent .ensures)
-    (c .before .before .before .before .before .before .before .before .refusal .ensures) (c .before .before .before .before .before .before .before .refusal2 .ensures) (c .before .before .before .before .before .before .refusal3 .ensures) (c .before .before .before .before .before .refusal4 .ensures) (c .before .before .before .before .refusal5 .ensures) (c .before .before .before .refusal6 .ensures) (c .before .before .if1 .left))
+returns c = λ s R looks. resolve-answered R (c .before .before .before .before .before .before .before .before .before .before .before .before .before .before .before .before .before .args .looked) _ looks _ (c .before .before .before .before .before .before .before .before .before .before .before .before .before .before .last-slot .ensures) _ _ _ (c .before .before .before .before .before .before .before .before .before .literal-exists .ensures) (c .before .before .before .before .before .before .before .before .is-propagated .ensures) (c .before .before .before .before .before .before .before .is-complement .ensures) _ (c .before .before .before .before .before .before .before .before .before .before .before .resolvent .ensures)
+    (c .before .before .before .before .before .before .refusal .ensures) (c .before .before .before .before .before .refusal2 .ensures) (c .before .before .before .before .refusal3 .ensures) (c .before .before .before .refusal4 .ensures) (c .before .before .refusal5 .ensures) (c .before .refusal6 .ensures) (c .taken-up .ensures)
 
 pub resolve-spec : {M : Type 1} → statement M
 resolve-spec =
@@ -44,6 +39,4 @@ resolve-spec =
     (λ c κs. search needs)
     (λ c κs. search needs)
     (λ c κs. search needs)
-    returns
-    (λ c κs. search needs)
-    returns-2)
+    returns)
