@@ -12,7 +12,6 @@ use Rattle.lists.proofs.Tests.{F→eq}
 use Rattle.rules.specs.Answers.{AnswerUnique, RunOf, Told}
 use Rattle.rules.specs.Records.{packedAnswer, packedRun, refusedAt, refusedBy}
 use Rattle.rules.specs.declared.Run.{Run}
-use Rattle.rules.specs.declared.Stepped.{Stepped}
 use Rattle.calculus.proofs.Answers.{AllOk, answer-unique, pass}
 use Rattle.calculus.proofs.Trails.{possible-none}
 use Rattle.calculus.specs.Checks.{firstRefusal}

@@ -6,7 +6,7 @@ use mathlib.Core.Bool.{Bool, true, false, cond}
 use Prim.Native.Nat.{ℕ, zero, suc, _+_, _-_, _≤_, _<_}
 use native.Mathlib.Decide.{ℕ-discrete, decLt}
 use native.Mathlib.Omega.{arith}
-use lib.Dec.{eqb, leb, ltb}
+use lib.Dec.{eqb, ltb}
 use lib.ListN.{List·getD-eq-default, List·getD-map, length, getD, set, length-append, length-map}
 use borrow.Author.Tests.{eq-eqb, le-leb, le-ltb, lt-leb, lt-ltb, ne-eqb}
 use Rattle.calculus.specs.Checks.{between}
@@ -38,7 +38,7 @@ use Rattle.rules.specs.declared.Run.{Run}
 use Rattle.rules.specs.declared.Step.{Step}
 use Rattle.rules.specs.declared.Stepped.{Stepped}
 use Rattle.rules.proofs.Reached.{reached-fine}
-use Rattle.rules.proofs.Runs.{clauses-is, conflict-is, fine, last-shown, none-shown, stored}
+use Rattle.rules.proofs.Runs.{conflict-is, fine, last-shown, none-shown, stored}
 use Rattle.rules.proofs.Steps.{propagate-step, decide-step, conflict-step, resolve-step, factorize-step, skip-step, backtrack-step, grow-step, unknown-step}
 use Rattle.trail.specs.Entries.{blankEntry, entryAs, packedEntry, packedTrail, pastEnd, trailOf}
 use Rattle.trail.specs.declared.Kind.{Kind}

@@ -6,11 +6,10 @@ use Prim.Native.Nat.{_+_, _<_, _≤_, pred, suc, zero, ℕ}
 use native.Mathlib.Numerals.{add-one}
 use native.Mathlib.Omega.{arith}
 use lib.Dec.{leb}
-use lib.ListN.{getD, length, length-map, length-reverse, length-take, set, take}
+use lib.ListN.{getD, length, length-map, length-reverse, set, take}
 use lib.Seq.{getD-set-other, getD-set-same, take-suc}
-use Rattle.basis.specs.Atoms.{noAtom}
 use Rattle.basis.specs.Limits.{mostEntries, mostVariables}
-use Rattle.lists.proofs.Arrays.{exactly-length, map-exactly, set-exactly, take-exactly, unset-exactly}
+use Rattle.lists.proofs.Arrays.{exactly-length, set-exactly, take-exactly, unset-exactly}
 use Rattle.lists.specs.Arrays.{exactly}
 use Rattle.trail.specs.Entries.{AllShort, OwnTrail, Recorded, Short, Stored, entryOf, blankEntry, packedEntry, packedTrail, pastEnd, trailOf}
 use Rattle.trail.specs.declared.Entry.{Entry}

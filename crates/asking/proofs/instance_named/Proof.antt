@@ -3,10 +3,6 @@ use mathlib.Core.Path.{sym, _∙_}
 use borrow.Author.Needs.{needs}
 use Rattle.asking.proofs.instance_named.Statement.{statement}
 use Rattle.asking.proofs.instance_named.Tie as tie
-use Rattle.asking.proofs.instance_named.Reads as reads
-use Rattle.asking.proofs.instance_named.Lts as lts
-use Rattle.instances.proofs.instance_fits.Reads as instance-fits-reads
-use Rattle.asking.proofs.clause_exists.Reads as clause-exists-reads
 
 returns : tie.Need-returns
 returns c = simp (lt-leb _ 12 (c .if1 .taken))

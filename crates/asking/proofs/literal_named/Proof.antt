@@ -11,10 +11,6 @@ use Rattle.clauses.specs.Records.{clauseOf}
 use borrow.Author.Needs.{needs}
 use Rattle.asking.proofs.literal_named.Statement.{statement}
 use Rattle.asking.proofs.literal_named.Tie as tie
-use Rattle.asking.proofs.literal_named.Reads as reads
-use Rattle.asking.proofs.literal_named.Lts as lts
-use Rattle.instances.proofs.literal_exists.Reads as literal-exists-reads
-use Rattle.asking.proofs.instance_named.Reads as instance-named-reads
 
 returns : tie.Need-returns
 returns c = no-literal (leb (c .before .before .args .count) mostVariables) (between 1 (c .before .before .args .input + c .before .before .args .learned) (c .before .before .args .c)) (instanceFits (c .before .before .args .constants) (clauseOf (c .before .before .args .clause)) (take (c .before .before .args .count) (c .before .before .args .instance))) (sym (c .before .literal-exists .ensures) ∙ not-true _ (c .if1 .taken))

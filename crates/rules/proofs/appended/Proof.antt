@@ -5,9 +5,6 @@ use borrow.Author.Needs.{needs}
 use Rattle.rules.proofs.Growing.{Grows, grows-turn, grown-all}
 use Rattle.rules.proofs.appended.Statement.{statement}
 use Rattle.rules.proofs.appended.Tie as tie
-use Rattle.rules.proofs.appended.Reads as reads
-use Rattle.rules.proofs.appended.Lts as lts
-use Rattle.trail.proofs.background_entry.Reads as background-entry-reads
 
 abbrev Inv-loop : tie.InvT-loop
 Inv-loop m learned fresh n next₀ j₀ next j = Grows next₀ next fresh m j

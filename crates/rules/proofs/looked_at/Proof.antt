@@ -2,9 +2,6 @@ use borrow.Author.Tests.{le-leb, lt-leb}
 use borrow.Author.Needs.{needs}
 use Rattle.rules.proofs.looked_at.Statement.{statement}
 use Rattle.rules.proofs.looked_at.Tie as tie
-use Rattle.rules.proofs.looked_at.Reads as reads
-use Rattle.rules.proofs.looked_at.Lts as lts
-use Rattle.clauses.proofs.no_clause.Reads as no-clause-reads
 
 returns : tie.Need-returns
 returns c = simp (lt-leb 1 _ (c .if1 .taken), c .before .no-clause .ensures)

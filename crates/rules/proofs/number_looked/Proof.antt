@@ -2,9 +2,6 @@ use borrow.Author.Tests.{ne-eqb}
 use borrow.Author.Needs.{needs}
 use Rattle.rules.proofs.number_looked.Statement.{statement}
 use Rattle.rules.proofs.number_looked.Tie as tie
-use Rattle.rules.proofs.number_looked.Reads as reads
-use Rattle.rules.proofs.number_looked.Lts as lts
-use Rattle.rules.proofs.clause_named.Reads as clause-named-reads
 
 returns : tie.Need-returns
 returns c = rw (c .match .keys1)

@@ -2,9 +2,6 @@ use borrow.Author.Tests.{eq-eqb, ne-eqb}
 use borrow.Author.Needs.{needs}
 use Rattle.rules.proofs.refused_at.Statement.{statement}
 use Rattle.rules.proofs.refused_at.Tie as tie
-use Rattle.rules.proofs.refused_at.Reads as reads
-use Rattle.rules.proofs.refused_at.Lts as lts
-use Rattle.rules.proofs.refused.Reads as refused-reads
 
 returns : tie.Need-returns
 returns c = simp (eq-eqb _ _ (c .if1 .taken))

@@ -3,8 +3,6 @@ use native.Mathlib.Omega.{arith}
 use borrow.Author.Needs.{needs}
 use Rattle.rules.proofs.slot_of.Statement.{statement}
 use Rattle.rules.proofs.slot_of.Tie as tie
-use Rattle.rules.proofs.slot_of.Reads as reads
-use Rattle.rules.proofs.slot_of.Lts as lts
 
 returns : tie.Need-returns
 returns c = (simp (lt-leb 1 _ (c .if1 .taken)), omega arith)

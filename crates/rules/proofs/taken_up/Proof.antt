@@ -2,9 +2,6 @@ use borrow.Author.Tests.{eq-eqb, ne-eqb}
 use borrow.Author.Needs.{needs}
 use Rattle.rules.proofs.taken_up.Statement.{statement}
 use Rattle.rules.proofs.taken_up.Tie as tie
-use Rattle.rules.proofs.taken_up.Reads as reads
-use Rattle.rules.proofs.taken_up.Lts as lts
-use Rattle.rules.proofs.refused_at.Reads as refused-at-reads
 
 returns : tie.Need-returns
 returns c = simp (ne-eqb _ _ (c .before .if1 .taken)) (c .refused-at .ensures)

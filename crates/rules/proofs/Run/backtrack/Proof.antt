@@ -8,21 +8,6 @@ use Rattle.rules.specs.declared.Run.{Run}
 use Rattle.testing.proofs.Atoms.{in-room}
 use Rattle.rules.proofs.Run.backtrack.Statement.{statement}
 use Rattle.rules.proofs.Run.backtrack.Tie as tie
-use Rattle.rules.proofs.Run.backtrack.Reads as reads
-use Rattle.rules.proofs.Run.backtrack.Lts as lts
-use Rattle.clauses.proofs.no_instanced.Reads as no-instanced-reads
-use Rattle.instances.proofs.again.Reads as again-reads
-use Rattle.instances.proofs.conflict_instance.Reads as conflict-instance-reads
-use Rattle.instances.proofs.literal_exists.Reads as literal-exists-reads
-use Rattle.rules.proofs.appended.Reads as appended-reads
-use Rattle.asking.proofs.refusal.Reads as refusal-reads
-use Rattle.rules.proofs.refused.Reads as refused-reads
-use Rattle.testing.proofs.gathered.Reads as gathered-reads
-use Rattle.testing.proofs.new_atoms.Reads as new-atoms-reads
-use Rattle.testing.proofs.possible.Reads as possible-reads
-use Rattle.trail.proofs.blank_entry.Reads as blank-entry-reads
-use Rattle.trail.proofs.levels.Reads as levels-reads
-use Rattle.trail.proofs.propagated_entry.Reads as propagated-entry-reads
 
 abbrev Inv-loop : tie.InvT-loop
 Inv-loop l self₀ c instance at fresh m kept number own g blank k₀ self k = Cuts self₀ self kept k

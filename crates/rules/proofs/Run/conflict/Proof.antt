@@ -5,15 +5,6 @@ use Rattle.rules.proofs.Conflicting.{conflict-answered}
 use borrow.Author.Needs.{needs}
 use Rattle.rules.proofs.Run.conflict.Statement.{statement}
 use Rattle.rules.proofs.Run.conflict.Tie as tie
-use Rattle.rules.proofs.Run.conflict.Reads as reads
-use Rattle.rules.proofs.Run.conflict.Lts as lts
-use Rattle.asking.proofs.instance_named.Reads as instance-named-reads
-use Rattle.asking.proofs.refusal.Reads as refusal-reads
-use Rattle.clauses.proofs.no_literal.Reads as no-literal-reads
-use Rattle.instances.proofs.first_constants.Reads as first-constants-reads
-use Rattle.rules.proofs.taken_up.Reads as taken-up-reads
-use Rattle.testing.proofs.gathered.Reads as gathered-reads
-use Rattle.testing.proofs.possible.Reads as possible-reads
 use Rattle.trail.specs.declared.LiteralsSeen.{LiteralsSeen}
 
 instance-named-requires : tie.Need-instance-named-requires

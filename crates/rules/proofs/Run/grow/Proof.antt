@@ -3,11 +3,6 @@ use Rattle.rules.proofs.Simple.{grow-refused, grow-passed, grow-accepte
 use borrow.Author.Needs.{needs}
 use Rattle.rules.proofs.Run.grow.Statement.{statement}
 use Rattle.rules.proofs.Run.grow.Tie as tie
-use Rattle.rules.proofs.Run.grow.Reads as reads
-use Rattle.rules.proofs.Run.grow.Lts as lts
-use Rattle.asking.proofs.refusal.Reads as refusal-reads
-use Rattle.rules.proofs.refused.Reads as refused-reads
-use Rattle.trail.proofs.empty_trail.Reads as empty-trail-reads
 
 returns : tie.Need-returns
 returns c = rw (c .refused .ensures) (λ s R. grow-refused R _ (c .before .before .before .before .refusal .ensures) (c .before .before .before .refusal2 .ensures) (c .before .before .refusal3 .ensures) (c .before .if1 .taken))

@@ -4,18 +4,6 @@ use Rattle.testing.proofs.Atoms.{in-room}
 use borrow.Author.Needs.{needs}
 use Rattle.rules.proofs.Run.propagate.Statement.{statement}
 use Rattle.rules.proofs.Run.propagate.Tie as tie
-use Rattle.rules.proofs.Run.propagate.Reads as reads
-use Rattle.rules.proofs.Run.propagate.Lts as lts
-use Rattle.instances.proofs.literal_instance.Reads as literal-instance-reads
-use Rattle.rules.proofs.appended.Reads as appended-reads
-use Rattle.asking.proofs.literal_named.Reads as literal-named-reads
-use Rattle.asking.proofs.refusal.Reads as refusal-reads
-use Rattle.rules.proofs.refused_at.Reads as refused-at-reads
-use Rattle.testing.proofs.gathered.Reads as gathered-reads
-use Rattle.testing.proofs.new_atoms.Reads as new-atoms-reads
-use Rattle.testing.proofs.possible.Reads as possible-reads
-use Rattle.trail.proofs.literals_seen.Reads as literals-seen-reads
-use Rattle.trail.proofs.propagated_entry.Reads as propagated-entry-reads
 
 literal-named-requires : tie.Need-literal-named-requires
 literal-named-requires c κs = let h = kept-small (c .before .pre .0, c .before .pre .1) in (h .few-input, h .few-learned)

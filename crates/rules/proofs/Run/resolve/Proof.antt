@@ -4,15 +4,6 @@ use Rattle.rules.proofs.Resolving.{resolve-answered}
 use borrow.Author.Needs.{needs}
 use Rattle.rules.proofs.Run.resolve.Statement.{statement}
 use Rattle.rules.proofs.Run.resolve.Tie as tie
-use Rattle.rules.proofs.Run.resolve.Reads as reads
-use Rattle.rules.proofs.Run.resolve.Lts as lts
-use Rattle.asking.proofs.is_complement.Reads as is-complement-reads
-use Rattle.asking.proofs.is_propagated.Reads as is-propagated-reads
-use Rattle.asking.proofs.refusal.Reads as refusal-reads
-use Rattle.asking.proofs.resolvent.Reads as resolvent-reads
-use Rattle.instances.proofs.literal_exists.Reads as literal-exists-reads
-use Rattle.rules.proofs.last_slot.Reads as last-slot-reads
-use Rattle.rules.proofs.taken_up.Reads as taken-up-reads
 
 element-copy-out-e : tie.Need-element-copy-out-e
 element-copy-out-e c = omega (arith, c .last-slot .ensures, kept-small (c .before .before .before .pre .0, c .before .before .before .pre .1) .few-entries)

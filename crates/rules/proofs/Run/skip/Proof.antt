@@ -4,14 +4,6 @@ use Rattle.rules.proofs.Simple.{skip-refused, skip-passed, skip-accepte
 use borrow.Author.Needs.{needs}
 use Rattle.rules.proofs.Run.skip.Statement.{statement}
 use Rattle.rules.proofs.Run.skip.Tie as tie
-use Rattle.rules.proofs.Run.skip.Reads as reads
-use Rattle.rules.proofs.Run.skip.Lts as lts
-use Rattle.asking.proofs.in_conflict.Reads as in-conflict-reads
-use Rattle.rules.proofs.last_slot.Reads as last-slot-reads
-use Rattle.asking.proofs.level_after.Reads as level-after-reads
-use Rattle.asking.proofs.refusal.Reads as refusal-reads
-use Rattle.rules.proofs.refused.Reads as refused-reads
-use Rattle.trail.proofs.blank_entry.Reads as blank-entry-reads
 
 mul-e : tie.Need-mul-e
 mul-e c = omega (arith, c .last-slot .ensures, kept-small (c .before .pre) .few-entries)

@@ -2,9 +2,6 @@ use Rattle.rules.proofs.Steps.{unknown-answered}
 use borrow.Author.Needs.{needs}
 use Rattle.rules.proofs.Run.unknown.Statement.{statement}
 use Rattle.rules.proofs.Run.unknown.Tie as tie
-use Rattle.rules.proofs.Run.unknown.Reads as reads
-use Rattle.rules.proofs.Run.unknown.Lts as lts
-use Rattle.rules.proofs.refused.Reads as refused-reads
 
 returns : tie.Need-returns
 returns c = rw (c .refused .ensures) (unknown-answered _ _)
