@@ -26,11 +26,12 @@ use Rattle.clauses.proofs.Records.{pastTable}
 use Rattle.header.specs.Records.{inputOf}
 use Rattle.header.specs.declared.HeaderRead.{HeaderRead}
 use Rattle.rules.specs.Answers.{RunOf, Told, Answered, Handed, Kept}
-use Rattle.rules.specs.Looking.{lookedAt, lookedIn, numberLooked, slotOf}
-use Rattle.rules.specs.Records.{packedRun, stepOf}
-use Rattle.rules.specs.declared.Looked.{Looked}
+use Rattle.asking.specs.Looking.{lookedAt, lookedIn, numberLooked, slotOf}
+use Rattle.rules.specs.Records.{packedRun}
+use Rattle.asking.specs.Steps.{stepOf}
+use Rattle.asking.specs.declared.Looked.{Looked}
 use Rattle.rules.specs.declared.Run.{Run}
-use Rattle.rules.specs.declared.Step.{Step}
+use Rattle.asking.specs.declared.Step.{Step}
 use Rattle.rules.specs.declared.Stepped.{Stepped}
 use Rattle.rules.proofs.Runs.{Small, kept-small}
 use Rattle.steps.specs.Records.{fileAnswer, stepAnswer}

@@ -9,6 +9,7 @@ ghost use Prim.Native.Nat.{_<_};
 ghost use lib.ListN.{length};
 ghost use Rattle.inspection.specs.Writing.{mostState};
 ghost use Rattle.state.specs.States.{Made};
+use asking::Step;
 use basis::Atom;
 use basis::Literal;
 use basis::MOST_ATOMS;
@@ -25,7 +26,6 @@ use inspection::put_conflict;
 use inspection::put_state;
 use libc::STDIN_FILENO;
 use libc::STDOUT_FILENO;
-use rules::Step;
 use state::State;
 use state::admit;
 

@@ -10,9 +10,9 @@ use lib.ListN.{length, take}
 use borrow.Author.Tests.{eqb-false, eqb-true, leb-false, leb-true, not-false, not-true}
 use Rattle.rules.proofs.Asking.{and-so, asked, either-told, none, other-told, passed, place-told, positive}
 use Rattle.calculus.specs.Clauses as calculus
-use Rattle.rules.specs.Looking.{lookedAt}
+use Rattle.asking.specs.Looking.{lookedAt}
 use Rattle.rules.specs.Records.{refusedAt, refusedBy, takenUp}
-use Rattle.rules.specs.declared.Looked.{Looked}
+use Rattle.asking.specs.declared.Looked.{Looked}
 use Rattle.basis.specs.Atoms.{Possible}
 use Rattle.basis.specs.Limits.{mostVariables}
 use Rattle.basis.specs.Numbers.{whole}

@@ -13,9 +13,9 @@ use Rattle.basis.specs.Refusals.{aboveLimit, alreadyDefined, noRoom, noSuch, ou
 use Rattle.basis.specs.declared.Literal.{Literal}
 use Rattle.lists.specs.Arrays.{exactly}
 use Rattle.rules.specs.Answers.{RunOf, Told}
-use Rattle.rules.specs.Looking.{lookedAt}
+use Rattle.asking.specs.Looking.{lookedAt}
 use Rattle.rules.specs.Records.{refusedBy}
-use Rattle.rules.specs.declared.Looked.{Looked}
+use Rattle.asking.specs.declared.Looked.{Looked}
 use Rattle.rules.specs.declared.Run.{Run}
 use Rattle.rules.specs.declared.Stepped.{Stepped}
 use Rattle.calculus.specs.Checks.{between}

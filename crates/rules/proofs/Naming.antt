@@ -14,8 +14,8 @@ use Rattle.basis.specs.declared.Atom.{Atom}
 use Rattle.lists.proofs.Arrays.{exactly-length, exactly-take}
 use Rattle.lists.specs.Arrays.{exactly}
 use Rattle.rules.specs.Answers.{RunOf}
-use Rattle.rules.specs.Looking.{heldAt}
-use Rattle.rules.specs.declared.Looked.{Looked}
+use Rattle.asking.specs.Looking.{heldAt}
+use Rattle.asking.specs.declared.Looked.{Looked}
 use Rattle.rules.specs.declared.Run.{Run}
 use Rattle.calculus.specs.Checks.{between}
 use Rattle.calculus.specs.Clauses.{groundAtoms}

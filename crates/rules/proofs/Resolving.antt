@@ -14,10 +14,10 @@ use Rattle.basis.specs.Refusals.{noEntry, noRoom, noSuch, notFalse, wrongLitera
 use Rattle.basis.specs.declared.Literal.{Literal}
 use Rattle.lists.proofs.Tests.{and-l, and-r}
 use Rattle.rules.specs.Answers.{RunOf, Told}
-use Rattle.rules.specs.Looking.{heldAt, lastNamed, lookedAt}
+use Rattle.asking.specs.Looking.{heldAt, lastNamed, lookedAt}
 use Rattle.rules.specs.Records.{packedRun, refusedAt, refusedBy, takenUp}
 use Rattle.asking.specs.Kinds.{isPropagated}
-use Rattle.rules.specs.declared.Looked.{Looked}
+use Rattle.asking.specs.declared.Looked.{Looked}
 use Rattle.rules.specs.declared.Run.{Run}
 use Rattle.rules.specs.declared.Stepped.{Stepped}
 use Rattle.calculus.proofs.Class.{limited-of, placed}

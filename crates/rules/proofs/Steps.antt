@@ -2,12 +2,13 @@
 use mathlib.Core.Path.{_≡_, refl, subst, transport⁻¹}
 use Prim.Native.Nat.{ℕ}
 use borrow.Author.Tests.{ne-eqb}
-use Rattle.rules.specs.declared.Step as steps
+use Rattle.asking.specs.declared.Step as steps
 use Rattle.rules.proofs.Told.{refused}
 use Rattle.basis.specs.Refusals.{unknownRule}
 use Rattle.rules.specs.Answers.{Answered, Answers, Handed}
-use Rattle.rules.specs.Records.{instanceOf, refusedBy, stepOf}
-use Rattle.rules.specs.declared.Looked.{Looked}
+use Rattle.rules.specs.Records.{refusedBy}
+use Rattle.asking.specs.Steps.{instanceOf, stepOf}
+use Rattle.asking.specs.declared.Looked.{Looked}
 use Rattle.rules.specs.declared.Run.{Run}
 use Rattle.rules.specs.declared.Stepped.{Stepped}
 use Rattle.calculus.specs.States.{Backtrack, Conflict, Decide, Factorize, Grow, Propagate, Resolve, Skip, Step, Unknown}

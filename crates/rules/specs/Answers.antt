@@ -4,9 +4,9 @@ use Rattle.basis.specs.Numbers.{whole}
 use Rattle.calculus.specs.Rules.{Answer, Judged}
 use Rattle.calculus.specs.Runs.{Reached, plain}
 use Rattle.calculus.specs.States.{State, Step}
-use Rattle.rules.specs.Looking.{lookedAt}
+use Rattle.asking.specs.Looking.{lookedAt}
 use Rattle.rules.specs.Records.{packedRun, packedAnswer}
-use Rattle.rules.specs.declared.Looked.{Looked}
+use Rattle.asking.specs.declared.Looked.{Looked}
 use Rattle.rules.specs.declared.Run.{Run}
 use Rattle.rules.specs.declared.Stepped.{Stepped}
 

@@ -4,7 +4,6 @@ use mathlib.Core.Bool.{true, cond}
 use Prim.Native.Nat.{ℕ, zero, suc, _+_}
 use lib.Dec.{eqb}
 use lib.ListN.{length, getD, set}
-use Rattle.lists.specs.Arrays.{exactly}
 use Rattle.calculus.specs.States as calculus
 use Rattle.calculus.specs.States.{State, conflictOf}
 use Rattle.basis.specs.Refusals.{accepted, notFalse}
@@ -18,7 +17,7 @@ use Rattle.trail.specs.Entries.{packedEntry, packedTrail}
 use Rattle.trail.specs.declared.Entry.{Entry}
 use Rattle.testing.specs.declared.NewAtoms.{NewAtoms}
 use Rattle.rules.specs.declared.Run.{Run}
-use Rattle.rules.specs.declared.Step.{Step}
+use Rattle.asking.specs.declared.Step.{Step}
 use Rattle.rules.specs.declared.Stepped.{Stepped}
 
 -- The run record of a state: its predicates and clauses stand beside it. Slots past a count are blank, and so is the conflict where none stands.
@@ -71,20 +70,3 @@ withAtoms es m az (suc j) = set (withAtoms es m az j) (m + suc j) (packedEntry (
 -- Accepted: e is entry m, and the new atoms follow it and are the last; c is as above.
 abbrev pub appendedAt : Run → ℕ → Entry → NewAtoms → ℕ → Stepped
 appendedAt r m e f c = lengthened r (m + f .count + 1) (withAtoms (set (r .trail) m e) m (f .at) (f .count)) c
-
--- The instance of a step, as many constants as it counts
-abbrev pub instanceOf : Step → List ℕ
-instanceOf x = exactly (x .count) 0 (x .instance)
-
--- "Rule number and its arguments in the order above"; a number that is none of the eight is an unknown rule.
-abbrev pub stepOf : Step → calculus.Step
-stepOf x =
-    cond (eqb (x .rule) 1) (calculus.Propagate (x .clause) (x .literal) (instanceOf x))
-    (cond (eqb (x .rule) 2) (calculus.Decide (x .clause) (x .literal) (x .sign) (instanceOf x))
-    (cond (eqb (x .rule) 3) (calculus.Conflict (x .clause) (instanceOf x))
-    (cond (eqb (x .rule) 4) (calculus.Resolve (x .literal))
-    (cond (eqb (x .rule) 5) (calculus.Factorize (x .literal) (x .other))
-    (cond (eqb (x .rule) 6) calculus.Skip
-    (cond (eqb (x .rule) 7) (calculus.Backtrack (x .literal))
-    (cond (eqb (x .rule) 8) (calculus.Grow (x .amount))
-    (calculus.Unknown (x .rule)))))))))

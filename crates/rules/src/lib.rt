@@ -3,19 +3,19 @@
 ghost use mathlib.Core.Path.{_≡_};
 ghost use mathlib.Core.Bool.{cond};
 ghost use Prim.Native.Nat.{_+_, _-_, _≤_, _<_};
-ghost use Rattle.basis.specs.Limits.{mostAtoms, mostClauses, mostEntries};
+ghost use Rattle.basis.specs.Limits.{mostAtoms, mostEntries};
 ghost use Rattle.basis.specs.Refusals.{notFalse};
 ghost use lib.Dec.{eqb};
 ghost use Rattle.lists.specs.Arrays.{exactly};
 ghost use Rattle.calculus.specs.States.{Propagate, Decide, Conflict, Resolve, Factorize, Skip, Backtrack, Grow, Unknown};
-ghost use Rattle.asking.specs.Kinds.{isPropagated};
 ghost use Rattle.rules.specs.Records.{appendedAt, refusedAt, refusedBy, takenUp};
-ghost use Rattle.rules.specs.Looking.{lookedIn, numberLooked, slotOf};
 ghost use Rattle.rules.specs.Answers.{Kept, Handed, Answers, Answered};
+use asking::Looked;
 use asking::in_conflict;
 use asking::instance_named;
 use asking::is_complement;
 use asking::is_propagated;
+use asking::last_slot;
 use asking::level_after;
 use asking::literal_named;
 use asking::refusal;
@@ -23,7 +23,6 @@ use asking::resolvent;
 use basis::ABOVE_LIMIT;
 use basis::ALREADY_DEFINED;
 use basis::KEPT_NOT_POSSIBLE;
-use basis::MOST_CLAUSES;
 use basis::MOST_CONSTANTS;
 use basis::MOST_ENTRIES;
 use basis::MOST_LEARNED;
@@ -38,9 +37,7 @@ use basis::OUT_OF_RANGE;
 use basis::UNKNOWN_RULE;
 use basis::WRONG_LITERAL;
 use basis::WRONG_MOMENT;
-use clauses::Clause;
 use clauses::Instanced;
-use clauses::no_clause;
 use clauses::no_instanced;
 use clauses::no_literal;
 use instances::again;
@@ -86,23 +83,6 @@ pub struct Stepped {
     pub number: u8,
     pub place: u8,
     pub learned: u8,
-}
-
-// What a step looks at of the clause table, filled by whoever owns the table: the one clause, blank where there is none.
-pub struct Looked {
-    pub clause: Clause,
-}
-
-// One proposed step: a rule number and its arguments; those that the rule has no use for are not looked at.
-pub struct Step {
-    pub rule: u8,
-    pub clause: u8,
-    pub literal: u8,
-    pub other: u8,
-    pub sign: u8,
-    pub amount: u8,
-    pub count: u8,
-    pub instance: [u8; MOST_VARIABLES],
 }
 
 // "Instance" means variables replaced by constants: a constant for each variable, in order; slots past a count are not looked at.
@@ -176,69 +156,6 @@ fn appended(run: Run, m: usize, own: Entry, fresh: NewAtoms, learned: u8) -> Ste
         place: 0,
         learned: learned,
     }
-}
-
-// ---- what a step looks at
-
-// The slot of the last entry; of the empty trail the first
-pub fn last_slot(length: u8) -> usize
-    ensures { λ r. ⌜ r ≡ length - 1 ⌝ }
-{
-    if length < 1 {
-        return 0;
-    }
-    length as usize - 1
-}
-
-// The number of the clause that the entry's step names, where it was propagated; else 0
-fn clause_named(e: Entry) -> u8
-    ensures { λ r. ⌜ r ≡ cond (isPropagated (e .kind)) (e .clause) 0 ⌝ }
-{
-    if is_propagated(e) {
-        return e.clause;
-    }
-    0
-}
-
-// The number of the clause that a step looks at: the named one; Resolve looks at that of the last entry's step. 0 where it looks at none.
-pub fn number_looked(last: Entry, x: Step) -> u8
-    ensures { λ r. ⌜ r ≡ numberLooked last x ⌝ }
-{
-    let rule = x.rule;
-    match rule {
-        1 => x.clause,
-        2 => x.clause,
-        3 => x.clause,
-        4 => clause_named(last),
-        _ => 0,
-    }
-}
-
-// The slot of a clause's number in the table; of a number that no table has, the first
-pub fn slot_of(c: u8) -> usize
-    ensures { λ r. ⌜ (r ≡ slotOf c) × (r < mostClauses) ⌝ }
-{
-    if c < 1 {
-        return 0;
-    }
-    if MOST_CLAUSES < c as usize {
-        return 0;
-    }
-    c as usize - 1
-}
-
-// What is looked at where a step looks at clause c, whose slot has `held`
-pub fn looked_at(c: u8, held: Clause) -> Looked
-    ensures { λ r. ⌜ r ≡ lookedIn c held ⌝ }
-{
-    let blank = no_clause();
-    if c < 1 {
-        return Looked { clause: blank };
-    }
-    if MOST_CLAUSES < c as usize {
-        return Looked { clause: blank };
-    }
-    Looked { clause: held }
 }
 
 // ---- the rules

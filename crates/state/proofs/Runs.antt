@@ -15,8 +15,8 @@ use Rattle.calculus.specs.Admission.{fresh}
 use Rattle.calculus.proofs.Answers as answers
 use Rattle.calculus.proofs.Demands.{demand-2, demand-3}
 use Rattle.rules.proofs.Runs.{no-conflict}
-use Rattle.rules.specs.Records.{stepOf}
-use Rattle.rules.specs.declared.Step.{Step}
+use Rattle.asking.specs.Steps.{stepOf}
+use Rattle.asking.specs.declared.Step.{Step}
 use Rattle.calculus.proofs.Runs.{admitted-reached, steps-keep-reached}
 use Rattle.state.specs.States.{AdmittedCodeReplays, AdmittedCodeSound, AnswerUnique, CodeReplays, CodeRun, CodeRunsAreRuns, CodeSound, StateOf, StepKeeps, over, packedAnswer, packedState, then}
 use Rattle.state.proofs.Opening.{admit-makes-states}

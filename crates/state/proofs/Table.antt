@@ -29,13 +29,12 @@ use Rattle.clauses.specs.Records.{packed}
 use Rattle.clauses.proofs.Records.{pastTable}
 use Rattle.clauses.specs.declared.Clause.{Clause}
 use Rattle.rules.specs.Answers.{RunOf, Told}
-use Rattle.rules.specs.Looking.{heldAt, lastNamed, lookedAt, lookedIn, looksAt, numberLooked, slotOf}
-use Rattle.rules.specs.Records as records
+use Rattle.asking.specs.Looking.{heldAt, lastNamed, lookedAt, lookedIn, looksAt, numberLooked, slotOf}
 use Rattle.asking.specs.Kinds.{isPropagated}
-use Rattle.rules.specs.Records.{stepOf}
-use Rattle.rules.specs.declared.Looked.{Looked}
+use Rattle.asking.specs.Steps.{instanceOf, stepOf}
+use Rattle.asking.specs.declared.Looked.{Looked}
 use Rattle.rules.specs.declared.Run.{Run}
-use Rattle.rules.specs.declared.Step.{Step}
+use Rattle.asking.specs.declared.Step.{Step}
 use Rattle.rules.specs.declared.Stepped.{Stepped}
 use Rattle.rules.proofs.Reached.{reached-fine}
 use Rattle.rules.proofs.Runs.{conflict-is, fine, last-shown, none-shown, stored}
@@ -54,8 +53,8 @@ is n k yes-then no-then = elim (ℕ-discrete n k) [ yes e ↦ yes-then e | no e 
 
 -- What holds of every rule's step holds of a step record.
 by-rule : (P : states.Step → Type 0) (x : Step)
-    → (x .rule ≡ 1 → P (Propagate (x .clause) (x .literal) (records.instanceOf x))) → (x .rule ≡ 2 → P (Decide (x .clause) (x .literal) (x .sign) (records.instanceOf x)))
-    → (x .rule ≡ 3 → P (Conflict (x .clause) (records.instanceOf x))) → (x .rule ≡ 4 → P (Resolve (x .literal))) → (x .rule ≡ 5 → P (Factorize (x .literal) (x .other)))
+    → (x .rule ≡ 1 → P (Propagate (x .clause) (x .literal) (instanceOf x))) → (x .rule ≡ 2 → P (Decide (x .clause) (x .literal) (x .sign) (instanceOf x)))
+    → (x .rule ≡ 3 → P (Conflict (x .clause) (instanceOf x))) → (x .rule ≡ 4 → P (Resolve (x .literal))) → (x .rule ≡ 5 → P (Factorize (x .literal) (x .other)))
     → (x .rule ≡ 6 → P Skip) → (x .rule ≡ 7 → P (Backtrack (x .literal))) → (x .rule ≡ 8 → P (Grow (x .amount)))
     → (¬ (x .rule ≡ 1) → ¬ (x .rule ≡ 2) → ¬ (x .rule ≡ 3) → ¬ (x .rule ≡ 4) → P (Unknown (x .rule))) → P (stepOf x)
 by-rule P x h1 h2 h3 h4 h5 h6 h7 h8 h =

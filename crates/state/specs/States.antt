@@ -20,9 +20,10 @@ use Rattle.calculus.specs.States.{clauses}
 use Rattle.calculus.specs.Truth.{Reading, True}
 use Rattle.clauses.specs.Records.{packed, packedInstanced}
 use Rattle.clauses.specs.declared.Clause.{Clause}
-use Rattle.rules.specs.Records.{packedRun, stepOf}
+use Rattle.rules.specs.Records.{packedRun}
+use Rattle.asking.specs.Steps.{stepOf}
 use Rattle.rules.specs.declared.Run.{Run}
-use Rattle.rules.specs.declared.Step.{Step}
+use Rattle.asking.specs.declared.Step.{Step}
 use Rattle.rules.specs.declared.Stepped.{Stepped}
 use Rattle.trail.specs.Entries.{packedTrail}
 use Rattle.state.specs.declared.State.{State}

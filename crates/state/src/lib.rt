@@ -7,6 +7,11 @@ ghost use Rattle.calculus.specs.Clauses as calculus;
 ghost use Rattle.clauses.specs.Records.{packed};
 ghost use Rattle.admission.specs.Offered.{offeredArities, offeredTable};
 ghost use Rattle.state.specs.States.{Answers, IsNew, Made, newRun, opened};
+use asking::Step;
+use asking::last_slot;
+use asking::looked_at;
+use asking::number_looked;
+use asking::slot_of;
 use basis::MOST_CLAUSES;
 use basis::MOST_INPUT;
 use basis::MOST_PREDICATES;
@@ -14,11 +19,6 @@ use clauses::Clause;
 use clauses::no_clause;
 use clauses::no_instanced;
 use rules::Run;
-use rules::Step;
-use rules::last_slot;
-use rules::looked_at;
-use rules::number_looked;
-use rules::slot_of;
 use trail::empty_trail;
 
 // "A state is predicates with arities, trail, input clauses, learned clauses, constants, level k, and a conflict or none." The fields are

@@ -13,7 +13,7 @@ use Rattle.runfile.proofs.Times.{times-front, times-length}
 use Rattle.fields.specs.declared.Cursor.the-variants as C
 use Rattle.header.specs.Records.{inputOf, packedHeader}
 use Rattle.header.specs.declared.HeaderRead.{HeaderRead}
-use Rattle.rules.specs.Records.{stepOf}
+use Rattle.asking.specs.Steps.{stepOf}
 use Rattle.steps.specs.Records.{fileAnswer, packedStep, stepAnswer}
 use Rattle.steps.specs.declared.StepRead.{StepRead}
 use Rattle.steps.proofs.Parts.{saying}

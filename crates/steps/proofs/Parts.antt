@@ -16,7 +16,7 @@ use Rattle.fields.specs.Views.{Filled, after, reached, viewed}
 use Rattle.fields.specs.declared.Cursor.{Cursor}
 use Rattle.header.specs.Records.{packedHeader}
 use Rattle.header.specs.declared.HeaderRead.{HeaderRead}
-use Rattle.rules.specs.declared.Step.{Step}
+use Rattle.asking.specs.declared.Step.{Step}
 use Rattle.runfile.specs.File.{File, Header, byte, count, end, file, header, instance, rule, ruled, step, within}
 use Rattle.runfile.specs.Readers.{Got, Reader, _then_, bad, give, got, onward, times}
 use Rattle.fields.specs.declared.Cursor.the-variants as C

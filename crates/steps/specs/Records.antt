@@ -15,8 +15,8 @@ use Rattle.fields.specs.declared.Cursor.{Cursor}
 use Rattle.fields.specs.declared.Cursor.the-variants as C
 use Rattle.header.specs.declared.HeaderRead.{HeaderRead}
 use Rattle.header.specs.Records.{packedHeader}
-use Rattle.rules.specs.declared.Step.{Step}
-use Rattle.rules.specs.Records.{stepOf}
+use Rattle.asking.specs.declared.Step.{Step}
+use Rattle.asking.specs.Steps.{stepOf}
 use Rattle.steps.specs.declared.StepRead.{StepRead}
 
 -- A record with the arguments that a rule may have

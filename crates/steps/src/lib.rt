@@ -8,6 +8,7 @@ ghost use Rattle.runfile.specs.Readers.{times};
 ghost use Rattle.runfile.specs.File.{byte, instance, ruled, step, end};
 ghost use Rattle.fields.specs.Views.{Filled, Fills, after, reached, viewed};
 ghost use Rattle.steps.specs.Records.{Instanced, Packs, fileAnswer, stepAnswer, stepRecord};
+use asking::Step;
 use basis::MOST_VARIABLES;
 use basis::SURPLUS;
 use fields::Cursor;
@@ -18,7 +19,6 @@ use fields::within_at;
 use header::HeaderRead;
 use header::no_header;
 use header::read_header;
-use rules::Step;
 
 // An instance and the cursor after it; slots past the count are 0.
 struct InstanceRead {

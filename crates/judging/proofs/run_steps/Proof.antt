@@ -9,8 +9,8 @@ use lib.ListN.{length}
 use Rattle.basis.specs.Limits.{mostClauses}
 use Rattle.runfile.specs.File.{mostSteps}
 use Rattle.rules.specs.Answers.{Answered, Handed, Kept, Told}
-use Rattle.rules.specs.Records.{stepOf}
-use Rattle.rules.specs.declared.Step.{Step}
+use Rattle.asking.specs.Steps.{stepOf}
+use Rattle.asking.specs.declared.Step.{Step}
 use Rattle.rules.proofs.Runs.{kept-small}
 use Rattle.rules.proofs.Steps.{answered-as, answers-as, backtrack-step, conflict-step, decide-step, factorize-step, grow-step, handed-as, propagate-step, resolve-step, skip-step, unknown-step}
 use Rattle.state.specs.States.{tableAfter}
@@ -38,10 +38,10 @@ use Rattle.rules.proofs.Run.propagate.Reads as propagate-reads
 use Rattle.rules.proofs.Run.resolve.Reads as resolve-reads
 use Rattle.rules.proofs.Run.skip.Reads as skip-reads
 use Rattle.rules.proofs.Run.unknown.Reads as unknown-reads
-use Rattle.rules.proofs.last_slot.Reads as last-slot-reads
-use Rattle.rules.proofs.looked_at.Reads as looked-at-reads
-use Rattle.rules.proofs.number_looked.Reads as number-looked-reads
-use Rattle.rules.proofs.slot_of.Reads as slot-of-reads
+use Rattle.asking.proofs.last_slot.Reads as last-slot-reads
+use Rattle.asking.proofs.looked_at.Reads as looked-at-reads
+use Rattle.asking.proofs.number_looked.Reads as number-looked-reads
+use Rattle.asking.proofs.slot_of.Reads as slot-of-reads
 use Rattle.state.proofs.new_run.Reads as new-run-reads
 use Rattle.steps.proofs.step_at.Reads as step-at-reads
 

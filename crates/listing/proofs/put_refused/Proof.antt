@@ -1,5 +1,5 @@
 use native.Mathlib.Omega.{arith}
-use Rattle.rules.specs.Records.{stepOf}
+use Rattle.asking.specs.Steps.{stepOf}
 use Rattle.text.proofs.Text.{and-then}
 use Rattle.listing.specs.Lines.{refusedLine}
 use Rattle.listing.proofs.Lines.{length-numbered, digits-byte}

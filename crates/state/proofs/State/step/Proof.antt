@@ -4,8 +4,8 @@ use mathlib.Core.Path.{_≡_}
 use Rattle.rules.proofs.Runs.{kept-small}
 use Rattle.rules.proofs.Steps.{answered-as, answers-as, backtrack-step, conflict-step, decide-step, factorize-step, grow-step, handed-as, propagate-step, resolve-step, skip-step, unknown-step}
 use Rattle.rules.specs.Answers.{Answered, Handed, Kept}
-use Rattle.rules.specs.Looking.{lookedAt}
-use Rattle.rules.specs.Records.{stepOf}
+use Rattle.asking.specs.Looking.{lookedAt}
+use Rattle.asking.specs.Steps.{stepOf}
 use Rattle.calculus.specs.States as states
 use Rattle.state.specs.States.{StateOf}
 use Rattle.state.proofs.Table.{looks-at, run-of, slot-free, step-answers, table-is, table-left, table-written}
@@ -23,10 +23,10 @@ use Rattle.rules.proofs.Run.propagate.Reads as propagate-reads
 use Rattle.rules.proofs.Run.resolve.Reads as resolve-reads
 use Rattle.rules.proofs.Run.skip.Reads as skip-reads
 use Rattle.rules.proofs.Run.unknown.Reads as unknown-reads
-use Rattle.rules.proofs.last_slot.Reads as last-slot-reads
-use Rattle.rules.proofs.looked_at.Reads as looked-at-reads
-use Rattle.rules.proofs.number_looked.Reads as number-looked-reads
-use Rattle.rules.proofs.slot_of.Reads as slot-of-reads
+use Rattle.asking.proofs.last_slot.Reads as last-slot-reads
+use Rattle.asking.proofs.looked_at.Reads as looked-at-reads
+use Rattle.asking.proofs.number_looked.Reads as number-looked-reads
+use Rattle.asking.proofs.slot_of.Reads as slot-of-reads
 
 -- What the rules are handed
 abbrev Ready : Type 0

@@ -14,9 +14,9 @@ use Rattle.calculus.specs.Trails.{Trail, foreground, background, propagated, de
 use Rattle.clauses.specs.Records.{packed}
 use Rattle.clauses.specs.declared.Clause.{Clause}
 use Rattle.trail.specs.declared.Entry.{Entry}
 use Rattle.asking.specs.Kinds.{isPropagated}
-use Rattle.rules.specs.declared.Looked.{Looked}
-use Rattle.rules.specs.declared.Step.{Step}
+use Rattle.asking.specs.declared.Looked.{Looked}
+use Rattle.asking.specs.declared.Step.{Step}
 
 -- The clause with number c, if there is one; else the blank one
 abbrev pub heldAt : List calculus.Clause → ℕ → calculus.Clause

@@ -1,7 +1,7 @@
 use borrow.Author.Tests.{le-leb, lt-leb}
 use borrow.Author.Needs.{needs}
-use Rattle.rules.proofs.looked_at.Statement.{statement}
-use Rattle.rules.proofs.looked_at.Tie as tie
+use Rattle.asking.proofs.looked_at.Statement.{statement}
+use Rattle.asking.proofs.looked_at.Tie as tie
 
 returns : tie.Need-returns
 returns c = simp (lt-leb 1 _ (c .if1 .taken), c .before .no-clause .ensures)

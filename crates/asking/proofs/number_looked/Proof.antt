@@ -1,7 +1,7 @@
 use borrow.Author.Tests.{ne-eqb}
 use borrow.Author.Needs.{needs}
-use Rattle.rules.proofs.number_looked.Statement.{statement}
-use Rattle.rules.proofs.number_looked.Tie as tie
+use Rattle.asking.proofs.number_looked.Statement.{statement}
+use Rattle.asking.proofs.number_looked.Tie as tie
 
 returns : tie.Need-returns
 returns c = rw (c .match .keys1)

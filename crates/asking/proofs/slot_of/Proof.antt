@@ -1,8 +1,8 @@
 use borrow.Author.Tests.{le-leb, lt-leb}
 use native.Mathlib.Omega.{arith}
 use borrow.Author.Needs.{needs}
-use Rattle.rules.proofs.slot_of.Statement.{statement}
-use Rattle.rules.proofs.slot_of.Tie as tie
+use Rattle.asking.proofs.slot_of.Statement.{statement}
+use Rattle.asking.proofs.slot_of.Tie as tie
 
 returns : tie.Need-returns
 returns c = (simp (lt-leb 1 _ (c .if1 .taken)), omega arith)
