@@ -9,7 +9,7 @@ use lib.Dec.{T, leb, ltb}
 use lib.ListN.{length, length-append}
 use borrow.Author.Tests.{le-leb, le-ltb, lt-leb, lt-ltb, ltb-false, ltb-true, not-false, not-true}
 use Rattle.rules.proofs.Asking.{as-told, asked, passed}
-use Rattle.rules.proofs.Growing.{Cuts, appended-stored, backtracked, cut-all, few-new}
+use Rattle.rules.proofs.Growing.{appended-stored, backtracked, cut-stored, few-new}
 use Rattle.calculus.specs.Clauses as calculus
 use Rattle.calculus.specs.Clauses.{groundAtoms, noInstanced, sameLiteral}
 use Rattle.basis.specs.Atoms.{Possible}
@@ -29,16 +29,16 @@ use Rattle.calculus.specs.Trails.{Trail, atomsOf, cut, foreground, levelOf, pro
 use Rattle.clauses.specs.Records.{instancedOf, packedInstanced}
 use Rattle.clauses.specs.declared.Instanced.{Instanced}
 use Rattle.rules.proofs.Reached.{AllFine, fine-atoms, fine-tail, ground-proper}
-use Rattle.rules.proofs.Runs.{clauses-is, conflict-says, constants-is, fine, fine-conflict, input-is, learned-is, packed-as, restored, standing, stands-is, stored}
+use Rattle.rules.proofs.Runs.{clauses-is, conflict-says, constants-is, fine, fine-conflict, input-is, learned-is, packed-as, standing, stands-is, stored}
 use Rattle.rules.proofs.Testing.{decides}
-use Rattle.rules.proofs.Told.{accepted-as, refused, refused-by, told-as}
+use Rattle.rules.proofs.Told.{accepted-as, refused, refused-by}
 use Rattle.testing.proofs.Atoms.{known-says, step-says, tested-says}
 use Rattle.testing.proofs.New.{propagated-new, pushed-length}
 use Rattle.testing.specs.Asked.{Gathers, SaysPossible, knownAtoms, stepAtoms, testedAtoms}
 use Rattle.testing.specs.New.{newAtoms, packedNew, pushedAtoms}
 use Rattle.testing.specs.declared.NewAtoms.{NewAtoms}
 use Rattle.testing.specs.declared.Tested.{Tested}
-use Rattle.trail.proofs.Stored.{cut-first, kept-few}
+use Rattle.trail.proofs.Stored.{cut-first, kept-few, stored-own}
 use Rattle.trail.proofs.Walks.{trail-length}
 use Rattle.trail.specs.Answers.{levelsSeen}
 use Rattle.trail.specs.Entries.{Recorded, Stored, trailOf}
@@ -148,16 +148,14 @@ module _ {r : Run} {s : State} (R : RunOf r s) (l : ℕ) where
               backtrack-no-room : mostLearned ≤ r .learned → Told s (Backtrack l) (refusedBy r noRoom)
               backtrack-no-room h = refused-by R (Backtrack l) b says noRoom tt tt (simp (standing R e, exists h₁, again-is h₂, above, h₄, fits, lt-leb (suc (length (s .learned))) mostLearned (omega (arith, learned-is R))))
 
-              -- Of the run the entries past the kept ones are cut off.
-              backtrack-accepted : r .learned < mostLearned → {q : Run} {j : ℕ} → Cuts r q (v .kept) j → j ≤ v .kept → (o : Entry) → Recorded o (foreground g (propagated m l (n .instance)))
-                  → (blank : Instanced) → blank ≡ packedInstanced noInstanced → Told s (Backtrack l) (appendedAt (backtracked (v .others) blank q) (v .kept) o f m)
-              backtrack-accepted h {q} C c o E blank none =
-                  told-as (ap (λ (u : Run). appendedAt (backtracked (v .others) blank u) (v .kept) o f m .run) (C .rest))
-                  (subst (λ (i : ℕ). Told s (Backtrack l) (record { run = appendedAt (backtracked (v .others) blank (restored r (q .trail))) (v .kept) o f m .run; number = accepted; place = 0; learned = i })) (sym number)
+              backtrack-accepted : r .learned < mostLearned → (o : Entry) → Recorded o (foreground g (propagated m l (n .instance)))
+                  → (blank : Instanced) → blank ≡ packedInstanced noInstanced → Told s (Backtrack l) (appendedAt (backtracked (v .others) blank r) (v .kept) o f m)
+              backtrack-accepted h o E blank none =
+                  subst (λ (i : ℕ). Told s (Backtrack l) (record { run = appendedAt (backtracked (v .others) blank r) (v .kept) o f m .run; number = accepted; place = 0; learned = i })) (sym number)
                   (accepted-as R (Backtrack l) b says
                   (simp (standing R e, exists h₁, again-is h₂, above, h₄, fits, le-leb (suc (length (s .learned))) mostLearned (omega (arith, learned-is R))) (tt, (tt, (tt, (tt, (tt, (tt, tt)))))))
                   _ (packed-as (next s (Backtrack l)) (constants-is R) (input-is R) (omega (arith, learned-is R, length-append (s .learned) (N .clause ∷ []))) back-is refl
-                  (subst (Stored (appendedAt (restored r (q .trail)) (v .kept) o f m .run .trail) (v .kept + f .count + 1)) grown (appended-stored f new f-is (few-new G f-is) h₅ (cut-all C c) E)) none)))
+                  (subst (Stored (appendedAt r (v .kept) o f m .run .trail) (v .kept + f .count + 1)) grown (appended-stored f new f-is (few-new G f-is) h₅ (cut-stored (r .trail) (r .length) (v .kept) (kept-below r l v-is) (stored-own (stored R))) E)) none))
 
   module _ (a b : Bool) (a-is : a ≡ literalExists (instancedOf (r .conflict) .clause) l)
       (b-is : b ≡ anyOf (sameLiteral (literalInstance (instancedOf (r .conflict)) l)) (otherInstances (instancedOf (r .conflict)) l))
@@ -192,14 +190,14 @@ module _ {r : Run} {s : State} (R : RunOf r s) (l : ℕ) where
         (few-new G f-is, ltb-true (v .kept + f .count) mostEntries t₅, ltb-true (r .learned) mostLearned t₆)
 
     -- .. and what is stored is what the rule names.
-    pub backtrack-told : n ≡ 0 → (g : Literal) → g ≡ literalInstance (instancedOf (r .conflict)) l → {q : Run} {j : ℕ} → Cuts r q (v .kept) j → j ≤ v .kept → (e : Entry)
+    pub backtrack-told : n ≡ 0 → (g : Literal) → g ≡ literalInstance (instancedOf (r .conflict)) l → (e : Entry)
         → Recorded e (foreground g (propagated (r .input + r .learned + 1) l (instancedOf (r .conflict) .instance))) → (blank : Instanced) → blank ≡ packedInstanced noInstanced
-        → Told s (Backtrack l) (appendedAt (backtracked (v .others) blank q) (v .kept) e f (r .input + r .learned + 1))
-    backtrack-told o g g-is C c e E blank none =
+        → Told s (Backtrack l) (appendedAt (backtracked (v .others) blank r) (v .kept) e f (r .input + r .learned + 1))
+    backtrack-told o g g-is e E blank none =
         let (t₀, z₁) = passed (r .stands) _ _ e₀ tt o in
         let (t₁, z₂) = passed a _ _ e₁ tt z₁ in
         let (t₂, z₃) = passed (not b) _ _ e₂ tt z₂ in
         let (t₃, z₄) = passed (ltb (v .others) (v .own)) _ _ e₃ tt z₃ in
         let (t₄, z₅) = passed p _ _ e₄ tt z₄ in
         let (few, fits, learnable) = backtrack-fits o in
-        backtrack-accepted t₀ (sym a-is ∙ t₁) (sym b-is ∙ not-true b t₂) v v-is (ltb-true (v .others) (v .own) t₃) w G p d t₄ f f-is g g-is fits learnable C c e E blank none
+        backtrack-accepted t₀ (sym a-is ∙ t₁) (sym b-is ∙ not-true b t₂) v v-is (ltb-true (v .others) (v .own) t₃) w G p d t₄ f f-is g g-is fits learnable e E blank none

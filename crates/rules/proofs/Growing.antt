@@ -2,7 +2,7 @@
 use mathlib.Core.Path.{_≡_, _∙_, ap, refl, subst}
 use mathlib.Core.Bool.{false}
 use mathlib.Core.List.{List, _∷_}
-use Prim.Native.Nat.{_+_, _<_, _≤_, suc, zero, ℕ}
+use Prim.Native.Nat.{_+_, _-_, _<_, _≤_, suc, zero, ℕ}
 use native.Mathlib.Omega.{arith}
 use lib.ListN.{getD, length, set, take}
 use lib.Seq.{take-length}
@@ -14,7 +14,7 @@ use Rattle.calculus.specs.Trails.{Trail, background}
 use Rattle.clauses.specs.declared.Instanced.{Instanced}
 use Rattle.rules.specs.declared.Run.{Run}
 use Rattle.rules.proofs.Runs.{restored}
-use Rattle.rules.specs.Records.{lengthened, withAtoms}
+use Rattle.rules.specs.Records.{lengthened, withAtoms, withoutEntries}
 use Rattle.testing.proofs.New.{new-few, stored-new}
 use Rattle.testing.proofs.Atoms.{step-says}
 use Rattle.testing.specs.Asked.{Gathers, knownAtoms, stepAtoms}
@@ -77,21 +77,47 @@ appended-stored {es} {t} {e} {x} {m} f az p few room S R =
 
 -- ---- the trail cut
 
--- Of the run `first` only the first k entries stand, and no fewer than are kept.
-pub record Cuts (first now : Run) (kept k : ℕ) : Type 0 where
-  pub low : kept ≤ k
-  pub rest : now ≡ restored first (now .trail)
-  pub stores : Stored (now .trail) k (trailOf (first .trail) k)
+-- Of the run `first` only the first k entries stand, and no fewer than the m that are kept.
+pub record Cuts (first now : Run) (m k : ℕ) : Type 0 where
+  pub few : k ≤ first .length
+  pub low : first .length - k ≤ first .length - m
+  pub is : now ≡ restored first (withoutEntries (first .trail) (first .length) (first .length - k))
 
-pub cuts-start : (r : Run) (kept : ℕ) → kept ≤ r .length → OwnTrail (r .trail) (r .length) → Cuts r r kept (r .length)
-cuts-start r kept h S = record { low = h; rest = refl; stores = S }
+pub cuts-start : (r : Run) (m : ℕ) → Cuts r r m (r .length)
+cuts-start r m =
+    let none : 0 ≡ r .length - r .length = omega arith in
+    record { few = omega arith; low = omega arith; is = ap (λ (d : ℕ). restored r (withoutEntries (r .trail) (r .length) d)) none }
 
-pub cuts-turn : {first now : Run} {kept k : ℕ} → Cuts first now kept k → kept < k → {i : ℕ} → k ≡ suc i → {e : Entry} → e ≡ blankEntry → Cuts first (restored now (set (now .trail) i e)) kept i
-cuts-turn {first} {now} {kept} {k} C h {i} at {e} b = record {
-  low = omega (arith, at);
-  rest = ap (λ (q : Run). restored q (set (now .trail) i e)) (C .rest);
-  stores = stored-back (now .trail) (first .trail) k i e at b (C .stores);
-}
+module _ {first now : Run} {m k : ℕ} (C : Cuts first now m k) where
+  pub cuts-turn : m < k → {i : ℕ} → k ≡ suc i → {e : Entry} → e ≡ blankEntry → Cuts first (restored now (set (now .trail) i e)) m i
+  cuts-turn h {i} at b =
+      let slot : i ≡ first .length - suc (first .length - k) = omega (arith, at, C .few) in
+      let more : suc (first .length - k) ≡ first .length - i = omega (arith, at, C .few) in
+      record {
+        few = omega (arith, at, C .few);
+        low = omega (arith, at, C .few);
+        is = (λ j. restored (C .is j) (set (C .is j .trail) (slot j) (b j))) ∙ ap (λ (d : ℕ). restored first (withoutEntries (first .trail) (first .length) d)) more;
+      }
 
-pub cut-all : {first now : Run} {kept k : ℕ} → Cuts first now kept k → k ≤ kept → Stored (now .trail) kept (trailOf (first .trail) kept)
-cut-all {first} {now} {kept} {k} C h = subst (λ (i : ℕ). Stored (now .trail) i (trailOf (first .trail) i)) (omega (arith, C .low)) (C .stores)
+  -- All that go are blank.
+  pub cut-all : k ≤ m → now ≡ restored first (withoutEntries (first .trail) (first .length) (first .length - m))
+  cut-all h =
+      let all : first .length - k ≡ first .length - m = omega (arith, C .low) in
+      C .is ∙ ap (λ (d : ℕ). restored first (withoutEntries (first .trail) (first .length) d)) all
+
+-- What is stored is what is kept.
+pub cut-stored : (es : List Entry) (n m : ℕ) → m ≤ n → OwnTrail es n → Stored (withoutEntries es n (n - m)) m (trailOf es m)
+cut-stored es n m h S =
+    let left : n - (n - m) ≡ m = omega arith in
+    subst (λ (i : ℕ). Stored (withoutEntries es n (n - m)) i (trailOf es i)) left (go (n - m) (omega arith))
+  where
+    go : (d : ℕ) → d ≤ n → Stored (withoutEntries es n d) (n - d) (trailOf es (n - d))
+    go zero h = let whole : n ≡ n - 0 = omega arith in subst (λ (i : ℕ). Stored es i (trailOf es i)) whole S
+    go (suc d) h = stored-back (withoutEntries es n d) es (n - d) (n - suc d) blankEntry (omega arith) refl (go d (omega arith))
+
+-- ---- both
+
+-- The run that is cut and then grown
+pub appended-all : {r q now : Run} {f : NewAtoms} {m k j : ℕ} (e : Entry) → Cuts r q m k → k ≤ m → Grows (restored q (set (q .trail) m e)) now f m j → f .count ≤ j
+    → (n c : ℕ) → lengthened now n (now .trail) c ≡ lengthened r n (withAtoms (set (withoutEntries (r .trail) (r .length) (r .length - m)) m e) m (f .at) (f .count)) c
+appended-all {f = f} {m = m} e C low G all n c = grown-all G all n c ∙ ap (λ (q : Run). lengthened q n (withAtoms (set (q .trail) m e) m (f .at) (f .count)) c) (cut-all C low)

@@ -30,7 +30,7 @@ use Rattle.calculus.specs.Rules.{clauseExists, instanceFits, literalExists, nex
 use Rattle.calculus.specs.States.{Propagate, State, Step, clauseAt, clauses, conflictOf, stands}
 use Rattle.calculus.specs.Trails.{atomsOf, foreground, propagated, undefined}
 use Rattle.clauses.specs.Records.{clauseOf, packed, packedInstanced}
-use Rattle.rules.proofs.Growing.{appended-stored, few-new}
+use Rattle.rules.proofs.Growing.{appended-stored, cut-stored, few-new}
 use Rattle.rules.proofs.Naming.{and-true, asked-is, instance-is, instance-long, instance-short, looks-named}
 use Rattle.rules.proofs.Runs.{conflict-is, constants-is, input-is, learned-is, level-is, no-conflict, packed-as, standing, stands-is, stored}
 use Rattle.rules.proofs.Testing.{carry, not-zero, tested}
@@ -151,7 +151,7 @@ module _ {r : Run} {s : State} (R : RunOf r s) (k : Looked) (c l count : ℕ) (�
               propagate-accepted h e E = given (accepted-as R x b says
                   (simp (short, free, named h₃, open-yet h₄, others, h₆, le-leb (length (next s x .trail)) mostEntries (omega (arith, grown-length))) (tt, (tt, (tt, (tt, (tt, (tt, (tt, tt))))))))
                   _ (packed-as (next s x) (constants-is R) (input-is R) (learned-is R) (level-is R) h₂
-                  (subst (Stored (appendedAt r (r .length) e f 0 .run .trail) (r .length + f .count + 1)) (sym grown) (appended-stored f new f-is (few-new G f-is) h (stored-own (stored R)) E))
+                  (subst (Stored (appendedAt r (r .length) e f 0 .run .trail) (r .length + f .count + 1)) (sym grown) (appended-stored f new f-is (few-new G f-is) h (cut-stored (r .trail) (r .length) (r .length) (omega arith) (stored-own (stored R))) E))
                   (conflict-is R ∙ ap (λ (q : Option calculus.Instanced). packedInstanced (conflictOf q)) (no-conflict (s .conflict) free))))
 
   module _ (handed : k ≡ lookedAt s (Propagate c l (exactly count 0 ι))) (a : Bool)
@@ -185,7 +185,7 @@ module _ {r : Run} {s : State} (R : RunOf r s) (k : Looked) (c l count : ℕ) (�
         (λ t₆ q₆. absurd (h (q₀ ∙ q₁ ∙ q₂ ∙ q₃ ∙ q₄ ∙ q₅ ∙ q₆)))))))))
 
     -- There is room ..
-    pub propagate-fits : n ≡ 0 → (f .count ≤ mostAtoms) × (r .length + f .count < mostEntries)
+    pub propagate-fits : n ≡ 0 → (f .count ≤ mostAtoms) × (r .length + f .count < mostEntries) × (r .length ≤ mostEntries)
     propagate-fits o =
         let (t₀, z₁) = passed (leb count mostVariables) _ _ e₀ tt o in
         let (t₁, z₂) = passed (not (r .stands)) _ _ e₁ tt z₁ in
@@ -194,7 +194,7 @@ module _ {r : Run} {s : State} (R : RunOf r s) (k : Looked) (c l count : ℕ) (�
         let (t₄, z₅) = passed (eqb (v .first) 0) _ _ e₄ tt z₄ in
         let (t₅, z₆) = passed b _ _ e₅ tt z₅ in
         let (t₆, z₇) = passed (ltb (r .length + f .count) mostEntries) _ _ e₆ tt z₆ in
-        (few-new G f-is, ltb-true (r .length + f .count) mostEntries t₆)
+        (few-new G f-is, ltb-true (r .length + f .count) mostEntries t₆, stored R .few)
 
     -- .. and what is stored is what the rule names.
     pub propagate-told : n ≡ 0 → (e : Entry) → Recorded e (foreground m (propagated c l (take count ι))) → Told s (Propagate c l (exactly count 0 ι)) (appendedAt r (r .length) e f 0)

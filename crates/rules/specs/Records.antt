@@ -1,7 +1,7 @@
--- Run records, answers and step records as the calculus's states, answers and steps.
+-- Run records and answers as the calculus's states and answers.
 use mathlib.Core.List.{List}
 use mathlib.Core.Bool.{true, cond}
-use Prim.Native.Nat.{ℕ, zero, suc, _+_}
+use Prim.Native.Nat.{ℕ, zero, suc, _+_, _-_}
 use lib.Dec.{eqb}
 use lib.ListN.{length, getD, set}
 use Rattle.calculus.specs.States as calculus
@@ -13,11 +13,10 @@ use Rattle.calculus.specs.Rules.{Answer, learnsAt}
 use Rattle.calculus.specs.Trails.{background}
 use Rattle.clauses.specs.Records.{packedInstanced}
 use Rattle.clauses.specs.declared.Instanced.{Instanced}
-use Rattle.trail.specs.Entries.{packedEntry, packedTrail}
+use Rattle.trail.specs.Entries.{blankEntry, packedEntry, packedTrail}
 use Rattle.trail.specs.declared.Entry.{Entry}
 use Rattle.testing.specs.declared.NewAtoms.{NewAtoms}
 use Rattle.rules.specs.declared.Run.{Run}
-use Rattle.asking.specs.declared.Step.{Step}
 use Rattle.rules.specs.declared.Stepped.{Stepped}
 
 -- The run record of a state: its predicates and clauses stand beside it. Slots past a count are blank, and so is the conflict where none stands.
@@ -62,11 +61,16 @@ lengthened r n es c = record {
   learned = c;
 }
 
+-- The array of n entries without its last d
+abbrev pub withoutEntries : List Entry → ℕ → ℕ → List Entry
+withoutEntries es n zero = es
+withoutEntries es n (suc d) = set (withoutEntries es n d) (n - suc d) blankEntry
+
 -- The array with the first j atoms behind entry m
 abbrev pub withAtoms : List Entry → ℕ → List Atom → ℕ → List Entry
 withAtoms es m az zero = es
 withAtoms es m az (suc j) = set (withAtoms es m az j) (m + suc j) (packedEntry (background (getD az j noAtom)))
 
--- Accepted: e is entry m, and the new atoms follow it and are the last; c is as above.
+-- Accepted: the trail is cut to m entries, e is entry m, and the new atoms follow it and are the last; c is as above.
 abbrev pub appendedAt : Run → ℕ → Entry → NewAtoms → ℕ → Stepped
-appendedAt r m e f c = lengthened r (m + f .count + 1) (withAtoms (set (r .trail) m e) m (f .at) (f .count)) c
+appendedAt r m e f c = lengthened r (m + f .count + 1) (withAtoms (set (withoutEntries (r .trail) (r .length) (r .length - m)) m e) m (f .at) (f .count)) c

@@ -135,13 +135,20 @@ fn taken_up(run: Run, number: u8, first: u8, of: Instanced) -> Stepped
     }
 }
 
-// Accepted: `own` is entry m, the new atoms follow it and are the last. `learned` is the number under which a clause was learned, or 0.
+// Accepted: the trail is cut to m entries, `own` is entry m, the new atoms follow it and are the last. `learned` is the number under which a
+// clause was learned, or 0.
 fn appended(run: Run, m: usize, own: Entry, fresh: NewAtoms, learned: u8) -> Stepped
-    requires { ⌜ (fresh .count ≤ mostAtoms) × (m + fresh .count < mostEntries) ⌝ }
+    requires { ⌜ (fresh .count ≤ mostAtoms) × (m + fresh .count < mostEntries) × (run .length ≤ mostEntries) ⌝ }
     ensures { λ a. ⌜ a ≡ appendedAt run m own fresh learned ⌝ }
 {
     let n = fresh.count as usize;
+    let blank = blank_entry();
     let mut next = run;
+    let mut k = run.length as usize;
+    while m < k {
+        k -= 1;
+        next.trail[k] = blank;
+    }
     next.trail[m] = own;
     let mut j = 0;
     while j < n {
@@ -455,12 +462,6 @@ impl Run {
         }
         let own = self.input + self.learned + 1;
         let g = conflict_instance(n, l);
-        let blank = blank_entry();
-        let mut k = self.length as usize;
-        while kept < k {
-            k -= 1;
-            self.trail[k] = blank;
-        }
         let none = no_instanced();
         self.level = at.others;
         self.learned += 1;
