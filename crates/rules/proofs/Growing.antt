@@ -51,7 +51,7 @@ module _ {first now : Run} {f : NewAtoms} {m j : ℕ} (G : Grows first now f m j
       }
 
   -- All are appended.
-  pub grown-all : f .count ≤ j → (n c : ℕ) → lengthened now n (now .trail) c ≡ lengthened first n (withAtoms (first .trail) m (f .at) (f .count)) c
+  grown-all : f .count ≤ j → (n c : ℕ) → lengthened now n (now .trail) c ≡ lengthened first n (withAtoms (first .trail) m (f .at) (f .count)) c
   grown-all h n c =
       let all : j ≡ f .count = omega (arith, G .few) in
       (λ i. lengthened (G .is i) n (G .is i .trail) c) ∙ ap (λ (i : ℕ). lengthened first n (withAtoms (first .trail) m (f .at) i) c) all
@@ -100,7 +100,7 @@ module _ {first now : Run} {m k : ℕ} (C : Cuts first now m k) where
       }
 
   -- All that go are blank.
-  pub cut-all : k ≤ m → now ≡ restored first (withoutEntries (first .trail) (first .length) (first .length - m))
+  cut-all : k ≤ m → now ≡ restored first (withoutEntries (first .trail) (first .length) (first .length - m))
   cut-all h =
       let all : first .length - k ≡ first .length - m = omega (arith, C .low) in
       C .is ∙ ap (λ (d : ℕ). restored first (withoutEntries (first .trail) (first .length) d)) all

@@ -24,8 +24,8 @@ use Rattle.clauses.specs.Records.{clauseOf, instancedOf, packed, packedInstance
 use Rattle.clauses.specs.declared.Clause.{Clause}
 use Rattle.clauses.specs.declared.Instanced.{Instanced}
 use Rattle.rules.proofs.Reached.{FineConflict, FineState, decisions-few, fine-short, reached-fine}
-use Rattle.trail.proofs.Stored.{packed-length, packed-stored, stored-own, stored-length}
-use Rattle.trail.specs.Entries.{OwnTrail, Stored, entryOf, pastEnd, trailOf}
+use Rattle.trail.proofs.Stored.{packed-length, packed-stored, stored-length}
+use Rattle.trail.specs.Entries.{Stored, entryOf, pastEnd, trailOf}
 use Rattle.trail.specs.declared.Entry as entries
 use Rattle.calculus.specs.Clauses as calculus
 
@@ -115,7 +115,6 @@ pub record Small (r : Run) : Type 0 where
   pub few-learned : r .learned ≤ mostLearned
   pub few-entries : r .length ≤ mostEntries
   pub few-decisions : r .level ≤ r .length
-  pub trail-held : OwnTrail (r .trail) (r .length)
   pub slots : length (r .trail) ≡ mostEntries
 
 pub kept-small : {r : Run} → Kept r → Small r
@@ -125,7 +124,6 @@ kept-small {r} (s, R) = record {
   few-learned = omega (arith, learned-is R, fine R .few-learned);
   few-entries = stored R .few;
   few-decisions = omega (arith, level-is R, fine R .level, decisions-few (s .trail), stored-length (stored R));
-  trail-held = stored-own (stored R);
   slots = ap length (stored R .packed) ∙ packed-length (s .trail);
 }
 

@@ -50,10 +50,6 @@ module _ {r : Run} {s : State} (R : RunOf r s) (x : Step) where
       → Told s x (record { run = q; number = accepted; place = 0; learned = learnsAt s x })
   accepted-as b d checks q e = (answer b s x, record { possible = b; decides = d; is = refl }, rw (pass (asks b s x) checks) (ap (λ (q : Run). record { run = q; number = accepted; place = 0; learned = learnsAt s x }) e))
 
--- The same answer with the next run told otherwise
-pub told-as : {s : State} {x : Step} {q q′ : Run} {m : ℕ} → q ≡ q′ → Told s x (record { run = q′; number = accepted; place = 0; learned = m }) → Told s x (record { run = q; number = accepted; place = 0; learned = m })
-told-as {s} {x} {m = m} e = subst (λ (p : Run). Told s x (record { run = p; number = accepted; place = 0; learned = m })) (sym e)
-
 pub answered-unique : AnswerUnique
 answered-unique r k x a b (s, R, l) f g =
     let (c, i, e) = f s R l in
