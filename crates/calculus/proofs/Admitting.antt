@@ -26,7 +26,7 @@ use Rattle.calculus.specs.Class.{Bounded, DifferencesBounded, InClass, L
 use Rattle.calculus.specs.Clauses.{Clause, arguments, noClause}
 use Rattle.calculus.specs.Merging.{occursIn}
 use Rattle.calculus.specs.States.{clauseAt}
-use Rattle.calculus.proofs.Reasons.{between-says, limited-says}
+use Rattle.calculus.proofs.Asks.{between-says, limited-says}
 
 -- ---- the clause class
 

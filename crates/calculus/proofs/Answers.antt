@@ -1,136 +1,107 @@
--- The answer to a step: it is unique, its number the first refusal, its place refusal 12's, its state the next one or the one given.
-use mathlib.Core.Path.{_∙_, _≡_, ap, refl, subst, sym}
+-- The answer to a step: what computes it is what the rules say, it is unique, and it is "accepted" exactly when the step is allowed.
+use mathlib.Core.Path.{_∙_, _≡_, ap, refl, sym}
 use mathlib.Core.Logic.{_↔_, _⊎_, inl, inr}
-use mathlib.Core.List.{List, List·Memᴰ, List·Memᴰ·cases-cons, List·Memᴰ·head, List·Memᴰ·not-nil, List·Memᴰ·tail, [], _∷_}
+use mathlib.Core.List.{List, List·Memᴰ, List·Memᴰ·head, List·Memᴰ·not-nil, List·Memᴰ·tail, [], _∷_}
 use mathlib.Core.Bool.{Bool, _&&_, _||_, cond, false, not, true}
 use Prim.Native.Nat.{_-_, _<_, _≤_, suc, zero, ℕ}
+use native.Mathlib.Decide.{ℕ-discrete}
 use native.Mathlib.Numerals.{unary-clauses}
 use native.Mathlib.Omega.{arith}
-use lib.Dec.{T, T-not, eqb, eqb-refl, eqb→eq, leb, leb→le, ltb, ltb→lt}
+use borrow.Author.Tests.{ne-eqb}
+use lib.Dec.{T, eqb, eqb-refl, leb, leb→le, ltb, ltb→lt}
 use lib.ListN.{getD, length}
 use Rattle.basis.specs.Atoms.{Possible}
 use Rattle.basis.specs.Numbers.{Numbers}
 use Rattle.basis.specs.Refusals.{accepted, noRoom, notFalse}
 use Rattle.basis.specs.declared.Literal.{Literal}
 use Rattle.lists.proofs.Denials.{or-false}
-use Rattle.lists.proofs.Members.{anyOf-in}
-use Rattle.lists.proofs.Tests.{F→eq, Said, T→eq, and-i, and-l, and-r, fails, holds, said}
+use Rattle.lists.proofs.Tests.{and-i, and-l, and-r, not-eqb, or-l, or-r}
 use Rattle.lists.specs.Lists.{allOf, anyOf}
-use Rattle.calculus.specs.Answers.{AcceptedLeadsOn, AnswerUnique, Applies, FirstNotFalse, NamesNotFalse, NotFalseNamed, NumberInTable, NumberSmallest, OtherPlacesZero, RefusedHandsBack, TriedInRisingOrder, rising}
+use Rattle.calculus.specs.Answers.{AcceptedExactlyIfAllowed, AnswerUnique, NumberInTable, TriedInRisingOrder, rising}
+use Rattle.calculus.specs.Asks.{allFalse, answer, asks, firstFailing, notFalsePlace, othersFalse, question}
 use Rattle.calculus.specs.Checks.{Check, firstRefusal}
 use Rattle.calculus.specs.Clauses.{complement, ground, noLiteral, sameLiteral}
+use Rattle.calculus.specs.Conditions.{Allowed, Condition, EachHolds, FirstLacking, FirstNotFalse, Judged, NamesNotFalse, conditions}
 use Rattle.calculus.specs.OnTrail.{False}
-use Rattle.calculus.specs.Rules.{Answer, Judged, allFalse, answer, asks, firstFailing, next, notFalsePlace, othersFalse, question}
+use Rattle.calculus.specs.Rules.{Answer, next}
 use Rattle.calculus.specs.States.{Backtrack, Conflict, Decide, Factorize, Grow, Propagate, Resolve, Skip, State, Step, Unknown, clauseAt, clauses}
 use Rattle.calculus.specs.Trails.{Trail, isFalse}
+use Rattle.calculus.proofs.Asks.{AllOk, all-say, first-lacking, matched, pass}
 use Rattle.calculus.proofs.OnTrail.{not-on-out, on-out, other-false-out, other-not-false}
 
--- ---- checks in rising order
+-- ---- conditions in rising order
 
--- Every condition holds.
-abbrev pub AllOk : List Check → Type 0
-AllOk [] = Unit {0}
-AllOk (c ∷ cs) = T (c .ok) × AllOk cs
+pub all-rise : (N : Numbers) → TriedInRisingOrder N
+all-rise N s (Propagate c l τ) = tt
+all-rise N s (Decide c l g τ) = tt
+all-rise N s (Conflict c τ) = tt
+all-rise N s (Resolve l) = tt
+all-rise N s (Factorize i j) = tt
+all-rise N s Skip = tt
+all-rise N s (Backtrack l) = tt
+all-rise N s (Grow n) = tt
+all-rise N s (Unknown r) = tt
 
-pub pass : (cs : List Check) → AllOk cs → firstRefusal cs ≡ accepted
-pass [] k = refl
-pass (c ∷ cs) k = rw (T→eq (c .ok) (k .0)) (pass cs (k .1))
+abbrev inTable : List Condition → Bool
+inTable [] = true
+inTable (c ∷ cs) = leb (c .refusal) noRoom && inTable cs
 
-pub all-rise : TriedInRisingOrder
-all-rise b s (Propagate c l τ) = tt
-all-rise b s (Decide c l g τ) = tt
-all-rise b s (Conflict c τ) = tt
-all-rise b s (Resolve l) = tt
-all-rise b s (Factorize i j) = tt
-all-rise b s Skip = tt
-all-rise b s (Backtrack l) = tt
-all-rise b s (Grow n) = tt
-all-rise b s (Unknown r) = tt
+all-in-table : (N : Numbers) (s : State) (x : Step) → T (inTable (conditions N s x))
+all-in-table N s (Propagate c l τ) = tt
+all-in-table N s (Decide c l g τ) = tt
+all-in-table N s (Conflict c τ) = tt
+all-in-table N s (Resolve l) = tt
+all-in-table N s (Factorize i j) = tt
+all-in-table N s Skip = tt
+all-in-table N s (Backtrack l) = tt
+all-in-table N s (Grow n) = tt
+all-in-table N s (Unknown r) = tt
 
-all-in-table : (b : Bool) (s : State) (x : Step) → T (allOf (λ c. leb (c .refusal) noRoom) (asks b s x))
-all-in-table b s (Propagate c l τ) = tt
-all-in-table b s (Decide c l g τ) = tt
-all-in-table b s (Conflict c τ) = tt
-all-in-table b s (Resolve l) = tt
-all-in-table b s (Factorize i j) = tt
-all-in-table b s Skip = tt
-all-in-table b s (Backtrack l) = tt
-all-in-table b s (Grow n) = tt
-all-in-table b s (Unknown r) = tt
+lacking-in-table : (n : ℕ) (cs : List Condition) → T (inTable cs) → FirstLacking n cs → n ≤ noRoom
+lacking-in-table n [] t e = omega arith
+lacking-in-table n (c ∷ cs) t (inl (h, e)) = omega (arith, leb→le (c .refusal) noRoom (and-l (leb (c .refusal) noRoom) (inTable cs) t))
+lacking-in-table n (c ∷ cs) t (inr (h, r)) = lacking-in-table n cs (and-r (leb (c .refusal) noRoom) (inTable cs) t) r
 
-given-in-table : (cs : List Check) → T (allOf (λ c. leb (c .refusal) noRoom) cs) → firstRefusal cs ≤ noRoom
-given-in-table [] t = omega arith
-given-in-table (c ∷ cs) t =
-    let r = given-in-table cs (and-r (leb (c .refusal) noRoom) (allOf (λ c. leb (c .refusal) noRoom) cs) t) in
-    let k = leb→le (c .refusal) noRoom (and-l (leb (c .refusal) noRoom) (allOf (λ c. leb (c .refusal) noRoom) cs) t) in
-    go r k (c .ok)
-  where
-    go : firstRefusal cs ≤ noRoom → c .refusal ≤ noRoom → (b : Bool) → cond b (firstRefusal cs) (c .refusal) ≤ noRoom
-    go r k true = r
-    go r k false = k
+-- None is lacking where the number is 0, and the number is 0 where none is lacking.
+each-holds : (k n : ℕ) (cs : List Condition) → T (rising k cs) → n ≡ accepted → FirstLacking n cs → EachHolds cs
+each-holds k n [] t z e = tt
+each-holds k n (c ∷ cs) t z (inl (h, e)) = absurd (omega (arith, ltb→lt k (c .refusal) (and-l (ltb k (c .refusal)) (rising (c .refusal) cs) t)))
+each-holds k n (c ∷ cs) t z (inr (h, r)) = (h, each-holds (c .refusal) n cs (and-r (ltb k (c .refusal)) (rising (c .refusal) cs) t) z r)
 
--- Numbers that rise from above k are above k.
-above : (k : ℕ) (c : Check) (cs : List Check) → T (rising k (c ∷ cs)) → k < c .refusal
-above k c cs t = ltb→lt k (c .refusal) (and-l (ltb k (c .refusal)) (rising (c .refusal) cs) t)
+none-lacking : (n : ℕ) (cs : List Condition) → EachHolds cs → FirstLacking n cs → n ≡ accepted
+none-lacking n [] h e = e
+none-lacking n (c ∷ cs) h (inl (k, e)) = absurd (k (h .0))
+none-lacking n (c ∷ cs) h (inr (k, r)) = none-lacking n cs (h .1) r
 
-rest-rises : (k : ℕ) (c : Check) (cs : List Check) → T (rising k (c ∷ cs)) → T (rising (c .refusal) cs)
-rest-rises k c cs t = and-r (ltb k (c .refusal)) (rising (c .refusal) cs) t
+-- Only one is the first.
+lacking-once : (n m : ℕ) (cs : List Condition) → FirstLacking n cs → FirstLacking m cs → n ≡ m
+lacking-once n m [] d e = d ∙ sym e
+lacking-once n m (c ∷ cs) (inl (h, d)) (inl (k, e)) = d ∙ sym e
+lacking-once n m (c ∷ cs) (inl (h, d)) (inr (k, e)) = absurd (h k)
+lacking-once n m (c ∷ cs) (inr (h, d)) (inl (k, e)) = absurd (k h)
+lacking-once n m (c ∷ cs) (inr (h, d)) (inr (k, e)) = lacking-once n m cs d e
 
-pub passed : (k : ℕ) (cs : List Check) → T (rising k cs) → firstRefusal cs ≡ accepted → AllOk cs
-passed k [] t e = tt
-passed k (c ∷ cs) t e = go (λ h. passed (c .refusal) cs (rest-rises k c cs t) h) (c .ok) e
-  where
-    go : (firstRefusal cs ≡ accepted → AllOk cs) → (b : Bool) → cond b (firstRefusal cs) (c .refusal) ≡ accepted → T b × AllOk cs
-    go ih true e = (tt, ih e)
-    go ih false e = absurd (omega (arith, above k c cs t))
+-- The number is that of a condition.
+abbrev numbersNone : ℕ → List Condition → Bool
+numbersNone n [] = not (eqb n accepted)
+numbersNone n (c ∷ cs) = not (eqb n (c .refusal)) && numbersNone n cs
 
--- A refusal that is given is that of a condition that fails.
-given-fails : (cs : List Check) → ¬ (firstRefusal cs ≡ accepted) → (c : Check) × List·Memᴰ c cs × (c .refusal ≡ firstRefusal cs) × T (not (c .ok))
-given-fails [] h = absurd (h refl)
-given-fails (c ∷ cs) h = go (λ k. given-fails cs k) (c .ok) refl h
-  where
-    Given : List Check → ℕ → Type 0
-    Given ds n = (d : Check) × List·Memᴰ d ds × (d .refusal ≡ n) × T (not (d .ok))
-
-    later : Given cs (firstRefusal cs) → Given (c ∷ cs) (firstRefusal cs)
-    later (d, m, e, f) = (d, List·Memᴰ·tail m, e, f)
-
-    go : (¬ (firstRefusal cs ≡ accepted) → Given cs (firstRefusal cs)) → (b : Bool) → c .ok ≡ b → ¬ (cond b (firstRefusal cs) (c .refusal) ≡ accepted) → Given (c ∷ cs) (cond b (firstRefusal cs) (c .refusal))
-    go ih true e h = later (ih h)
-    go ih false e h = (c, List·Memᴰ·head refl, refl, rw e tt)
-
-given-least : (k : ℕ) (cs : List Check) → T (rising k cs) → {d : Check} → List·Memᴰ d cs → T (not (d .ok)) → (k < firstRefusal cs) × (firstRefusal cs ≤ d .refusal)
-given-least k [] t m f = absurd (List·Memᴰ·not-nil m)
-given-least k (c ∷ cs) t {d} m f = go (λ h. given-least (c .refusal) cs (rest-rises k c cs t) h f) (c .ok) refl (List·Memᴰ·cases-cons m)
-  where
-    up : k < c .refusal
-    up = above k c cs t
-
-    go : (List·Memᴰ d cs → (c .refusal < firstRefusal cs) × (firstRefusal cs ≤ d .refusal)) → (b : Bool) → c .ok ≡ b → (d ≡ c) ⊎ List·Memᴰ d cs → (k < cond b (firstRefusal cs) (c .refusal)) × (cond b (firstRefusal cs) (c .refusal) ≤ d .refusal)
-    go ih true e (inl q) = absurd (T-not (d .ok) f (rw (ap (λ (x : Check). x .ok) q ∙ e) tt))
-    go ih true e (inr h) = let r = ih h in (omega (arith, up), r .1)
-    go ih false e (inl q) = let z = ap (λ (x : Check). x .refusal) q in (up, omega arith)
-    go ih false e (inr h) = let r = ih h in (up, omega arith)
-
--- ---- an accepted step
-
-pub accepted-next : (b : Bool) (s : State) (x : Step) → AllOk (asks b s x) → answer b s x ≡ record { number = accepted; place = zero; state = next s x }
-accepted-next b s x k = rw (pass (asks b s x) k)
-
--- What an accepted step has met, and the state it leads to
-pub record Accepted (N : Numbers) (s : State) (x : Step) (s′ : State) : Type 0 where
-  pub possible : Bool
-  pub decides : T possible ↔ Possible N (s .constants) (question s x)
-  pub checks : AllOk (asks possible s x)
-  pub is : s′ ≡ next s x
+pub not-lacking : (n : ℕ) (cs : List Condition) → T (numbersNone n cs) → FirstLacking n cs → ⊥
+not-lacking n [] t e = not-eqb n accepted t e
+not-lacking n (c ∷ cs) t (inl (h, e)) = not-eqb n (c .refusal) (and-l (not (eqb n (c .refusal))) (numbersNone n cs) t) e
+not-lacking n (c ∷ cs) t (inr (h, r)) = not-lacking n cs (and-r (not (eqb n (c .refusal))) (numbersNone n cs) t) r
 
 -- ---- refusal 12
 
--- The number is that of a condition that fails.
-pub fault-given : (n : ℕ) (cs : List Check) → firstRefusal cs ≡ n → ¬ (n ≡ accepted) → T (anyOf (λ c. eqb (c .refusal) n && not (c .ok)) cs)
-fault-given n cs e h =
-    let (c, m, q, f) = given-fails cs (λ z. h (sym e ∙ z)) in
-    anyOf-in (λ (c : Check). eqb (c .refusal) n && not (c .ok)) cs m (and-i (eqb (c .refusal) n) (not (c .ok)) (rw (q ∙ e) (eqb-refl n)) f)
+-- The number is that of a check that fails.
+fault-given : (n : ℕ) (cs : List Check) → firstRefusal cs ≡ n → ¬ (n ≡ accepted) → T (anyOf (λ c. eqb (c .refusal) n && not (c .ok)) cs)
+fault-given n [] e h = absurd (h (sym e))
+fault-given n (c ∷ cs) e h = go (c .ok) e (λ k. fault-given n cs k h)
+  where
+    go : (b : Bool) → cond b (firstRefusal cs) (c .refusal) ≡ n → (firstRefusal cs ≡ n → T (anyOf (λ c. eqb (c .refusal) n && not (c .ok)) cs))
+        → T ((eqb (c .refusal) n && not b) || anyOf (λ c. eqb (c .refusal) n && not (c .ok)) cs)
+    go true e ih = or-r (eqb (c .refusal) n && false) _ (ih e)
+    go false e ih = or-l (eqb (c .refusal) n && true) _ (and-i (eqb (c .refusal) n) true (rw e (eqb-refl n)) tt)
 
 -- What is said of the first literal that fails a test
 record FirstFailing (f : Literal → Bool) (ls : List Literal) (p : ℕ) : Type 0 where
@@ -172,88 +143,55 @@ first-not-false t τ MustBe f failing passing ls h =
     let k = failing (getD ls (firstFailing f ls - 1) noLiteral) (r .fails-there) in
     record { from-one = r .from-one; there = r .there; must-be = k .0; is-not = k .1; those-before = λ i a b m. passing (getD ls (i - 1) noLiteral) (r .before i a b) m }
 
--- Two Booleans that decide the same are one.
-decided-same : {P : Type 0} (p q : Bool) → T p ↔ P → T q ↔ P → p ≡ q
-decided-same true true f g = refl
-decided-same true false f g = absurd (g .1 (f .0 tt))
-decided-same false true f g = absurd (f .1 (g .0 tt))
-decided-same false false f g = refl
+-- Only one is the first.
+not-false-once : (t : Trail) (τ : List ℕ) (MustBe : Literal → Type 0) (ls : List Literal) (p q : ℕ) → FirstNotFalse t τ MustBe ls p → FirstNotFalse t τ MustBe ls q → p ≡ q
+not-false-once t τ MustBe ls p q a b =
+    let below : (p q : ℕ) → FirstNotFalse t τ MustBe ls p → FirstNotFalse t τ MustBe ls q → ¬ (p < q) = λ p q a b h. a .is-not (b .those-before p (a .from-one) h (a .must-be)) in
+    elim (ℕ-discrete p q) [
+      | yes e ↦ e
+      | no e ↦ absurd (below q p b a (omega (arith, at-least p q (below p q a b))))
+    ]
+  where
+    at-least : (p q : ℕ) → ¬ (p < q) → q ≤ p
+    at-least p q h = elim (ℕ-discrete (q - p) 0) [ | yes e ↦ omega arith | no e ↦ absurd (h (omega arith)) ]
+
+named-once : (s : State) (x : Step) (p q : ℕ) → NamesNotFalse s x p → NamesNotFalse s x q → p ≡ q
+named-once s (Propagate c l τ) p q a b = not-false-once (s .trail) τ _ (clauseAt (clauses s) c .literals) p q a b
+named-once s (Decide c l g τ) p q a b = absurd a
+named-once s (Conflict c τ) p q a b = not-false-once (s .trail) τ _ (clauseAt (clauses s) c .literals) p q a b
+named-once s (Resolve l) p q a b = absurd a
+named-once s (Factorize i j) p q a b = absurd a
+named-once s Skip p q a b = absurd a
+named-once s (Backtrack l) p q a b = absurd a
+named-once s (Grow n) p q a b = absurd a
+named-once s (Unknown r) p q a b = absurd a
+
+-- ---- what computes the answer
+
+-- What an accepted step has met, and the state it leads to
+pub record Accepted (N : Numbers) (s : State) (x : Step) (s′ : State) : Type 0 where
+  pub possible : Bool
+  pub decides : T possible ↔ Possible N (s .constants) (question s x)
+  pub checks : AllOk (asks possible s x)
+  pub is : s′ ≡ next s x
+
+pub possible-none : (N : Numbers) (n : ℕ) → Possible N n []
+possible-none N n = record { value = N .counted; at-zero = N .counted-zero; rising = λ i h k. N .counted-rises i; every = λ a m. absurd (List·Memᴰ·not-nil m) }
 
 module _ (N : Numbers) where
-  pub acceptance : (s : State) (x : Step) (a : Answer) → Judged N s x a → a .number ≡ accepted → Accepted N s x (a .state)
-  acceptance s x a j e =
-      let k : AllOk (asks (j .possible) s x) = passed accepted (asks (j .possible) s x) (all-rise (j .possible) s x) (sym (ap (λ (r : Answer). r .number) (j .is)) ∙ e) in
-      record { possible = j .possible; decides = j .decides; checks = k; is = ap (λ (r : Answer). r .state) (j .is ∙ accepted-next (j .possible) s x k) }
-
-  pub accepted-leads-on : AcceptedLeadsOn N
-  accepted-leads-on s x a j e = acceptance s x a j e .is
-
-  -- ---- a refused step
-
-  pub refused-hands-back : RefusedHandsBack N
-  refused-hands-back s x a j h = ap (λ (r : Answer). r .state) (j .is) ∙ go (said (eqb n accepted))
+  pub judged-by : (b : Bool) (s : State) (x : Step) → T b ↔ Possible N (s .constants) (question s x) → Judged N s x (answer b s x)
+  judged-by b s x d = record {
+    first-lacking = first-lacking (matched N s b x d);
+    next-state = λ e. rw e;
+    handed-back = λ e. rw (ne-eqb n accepted e);
+    named = λ e. rw e (named x (fault-given notFalse (asks b s x) e (λ z. absurd (omega arith))));
+    no-place = λ e. rw (ne-eqb n notFalse e);
+  }
     where
       n : ℕ
-      n = firstRefusal (asks (j .possible) s x)
+      n = firstRefusal (asks b s x)
 
-      go : Said (eqb n accepted) → answer (j .possible) s x .state ≡ s
-      go (holds t) = absurd (h (ap (λ (r : Answer). r .number) (j .is) ∙ eqb→eq n accepted t))
-      go (fails t) = rw (F→eq (eqb n accepted) t)
-
-  -- ---- the answer is unique
-
-  pub answer-unique : AnswerUnique N
-  answer-unique s x a b j k = j .is ∙ ap (λ p. answer p s x) (decided-same (j .possible) (k .possible) (j .decides) (k .decides)) ∙ sym (k .is)
-
-  -- ---- the number
-
-  pub number-smallest : NumberSmallest N
-  number-smallest s x a j = record { applies = meets; smallest = λ h m y. least m y .1; none-applies = λ e m y. absurd (omega (arith, least m y .0)) }
-    where
-      cs : List Check
-      cs = asks (j .possible) s x
-
-      given : a .number ≡ firstRefusal cs
-      given = ap (λ (r : Answer). r .number) (j .is)
-
-      meets : ¬ (a .number ≡ accepted) → Applies N s x (a .number)
-      meets h =
-          let (c, m, e, f) = given-fails cs (λ z. h (given ∙ z)) in
-          record { possible = j .possible; decides = j .decides; check = c; asked = m; numbered = e ∙ sym given; fails = f }
-
-      least : (m : ℕ) → Applies N s x m → (0 < a .number) × (a .number ≤ m)
-      least m y =
-          let b = decided-same (y .possible) (j .possible) (y .decides) (j .decides) in
-          let r = given-least accepted cs (all-rise (j .possible) s x) (subst (λ p. List·Memᴰ (y .check) (asks p s x)) b (y .asked)) (y .fails) in
-          let e = y .numbered in
-          let g = given in
-          (omega arith, omega arith)
-
-  pub number-in-table : NumberInTable N
-  number-in-table s x a j = rw (ap (λ (r : Answer). r .number) (j .is)) (given-in-table (asks (j .possible) s x) (all-in-table (j .possible) s x))
-
-  -- ---- the place
-
-  pub other-places-zero : OtherPlacesZero N
-  other-places-zero s x a j h = ap (λ (r : Answer). r .place) (j .is) ∙ go (said (eqb n notFalse))
-    where
-      n : ℕ
-      n = firstRefusal (asks (j .possible) s x)
-
-      go : Said (eqb n notFalse) → answer (j .possible) s x .place ≡ zero
-      go (holds t) = absurd (h (ap (λ (r : Answer). r .number) (j .is) ∙ eqb→eq n notFalse t))
-      go (fails t) = rw (F→eq (eqb n notFalse) t)
-
-  pub not-false-named : NotFalseNamed N
-  not-false-named s x a j e = subst (NamesNotFalse s x) (sym place) (named x (fault-given notFalse (asks (j .possible) s x) given (λ z. absurd (omega arith))))
-    where
-      given : firstRefusal (asks (j .possible) s x) ≡ notFalse
-      given = sym (ap (λ (r : Answer). r .number) (j .is)) ∙ e
-
-      place : a .place ≡ notFalsePlace s x
-      place = ap (λ (r : Answer). r .place) (j .is) ∙ rw given
-
-      named : (x : Step) → T (anyOf (λ c. eqb (c .refusal) notFalse && not (c .ok)) (asks (j .possible) s x)) → NamesNotFalse s x (notFalsePlace s x)
+      named : (x : Step) → T (anyOf (λ c. eqb (c .refusal) notFalse && not (c .ok)) (asks b s x)) → NamesNotFalse s x (notFalsePlace s x)
       named (Propagate c l τ) h =
           let C = clauseAt (clauses s) c in
           let g = ground τ (getD (C .literals) (l - 1) noLiteral) in
@@ -272,3 +210,43 @@ module _ (N : Numbers) where
       named (Backtrack l) h = absurd h
       named (Grow n) h = absurd h
       named (Unknown r) h = absurd h
+
+  -- ---- what the answer says
+
+  pub number-in-table : NumberInTable N
+  number-in-table s x a j = lacking-in-table (a .number) (conditions N s x) (all-in-table N s x) (j .first-lacking)
+
+  pub accepted-exactly-if-allowed : AcceptedExactlyIfAllowed N
+  accepted-exactly-if-allowed s x a j =
+      (λ e. each-holds accepted (a .number) (conditions N s x) (all-rise N s x) e (j .first-lacking), λ h. none-lacking (a .number) (conditions N s x) h (j .first-lacking))
+
+  -- An allowed step's atoms are possible, or it asks for none.
+  asked-possible : (s : State) (x : Step) → Allowed N s x → Possible N (s .constants) (question s x)
+  asked-possible s (Propagate c l τ) h = h .1 .1 .1 .1 .1 .0
+  asked-possible s (Decide c l g τ) h = possible-none N (s .constants)
+  asked-possible s (Conflict c τ) h = h .1 .1 .1 .1 .0
+  asked-possible s (Resolve l) h = possible-none N (s .constants)
+  asked-possible s (Factorize i j) h = possible-none N (s .constants)
+  asked-possible s Skip h = possible-none N (s .constants)
+  asked-possible s (Backtrack l) h = h .1 .1 .1 .1 .0
+  asked-possible s (Grow n) h = possible-none N (s .constants)
+  asked-possible s (Unknown r) h = absurd (h .0)
+
+  pub acceptance : (s : State) (x : Step) (a : Answer) → Judged N s x a → a .number ≡ accepted → Accepted N s x (a .state)
+  acceptance s x a j e =
+      let h = accepted-exactly-if-allowed s x a j .0 e in
+      let d : T true ↔ Possible N (s .constants) (question s x) = (λ _. asked-possible s x h, λ _. tt) in
+      record { possible = true; decides = d; checks = all-say (matched N s true x d) .1 h; is = j .next-state e }
+
+  pub answer-unique : AnswerUnique N
+  answer-unique s x a b j k =
+      let n : a .number ≡ b .number = lacking-once (a .number) (b .number) (conditions N s x) (j .first-lacking) (k .first-lacking) in
+      let p : a .place ≡ b .place = elim (ℕ-discrete (a .number) notFalse) [
+        | yes e ↦ named-once s x (a .place) (b .place) (j .named e) (k .named (sym n ∙ e))
+        | no e ↦ j .no-place e ∙ sym (k .no-place (λ f. e (n ∙ f)))
+      ] in
+      let t : a .state ≡ b .state = elim (ℕ-discrete (a .number) accepted) [
+        | yes e ↦ j .next-state e ∙ sym (k .next-state (sym n ∙ e))
+        | no e ↦ j .handed-back e ∙ sym (k .handed-back (λ f. e (n ∙ f)))
+      ] in
+      λ i. record { number = n i; place = p i; state = t i }

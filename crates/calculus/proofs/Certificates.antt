@@ -17,8 +17,10 @@ use Rattle.lists.proofs.Members.{allOf-out, anyOf-out}
 use Rattle.lists.proofs.Tests.{and-l, and-r, holds}
 use Rattle.lists.specs.Lists.{allOf, anyOf, upFrom}
 use Rattle.calculus.specs.Clauses.{sameAtom}
-use Rattle.calculus.specs.Rules.{Judged, answer, question}
+use Rattle.calculus.specs.Asks.{answer, question}
+use Rattle.calculus.specs.Conditions.{Judged}
 use Rattle.calculus.specs.States.{State, Step}
+use Rattle.calculus.proofs.Answers.{judged-by}
 use Rattle.calculus.proofs.Merged.{sameAtom→eq}
 use Rattle.integers.proofs.Linear.{le→, lt→, negated, sum, →le}
 
@@ -103,4 +105,4 @@ impossible-by n az p es t P =
 
 -- The answer to a step whose question has these numbers
 pub judged-yes : (s : State) (x : Step) (ws : List ℤ) → T (keeps (s .constants) (question s x) ws) → Judged whole s x (answer true s x)
-judged-yes s x ws t = record { possible = true; decides = (λ u. possible-by (s .constants) (question s x) ws t, λ P. tt); is = refl }
+judged-yes s x ws t = judged-by whole true s x (λ u. possible-by (s .constants) (question s x) ws t, λ P. tt)

@@ -1,21 +1,21 @@
 -- Levels count the decisions up to and including a literal, and a cut is just before decision i + 1.
 use mathlib.Core.Path.{_∙_, _≡_, ap, refl}
 use mathlib.Core.Logic.{_⊎_, inl, inr}
-use mathlib.Core.List.{[], _++_, _∷_}
+use mathlib.Core.List.{List, List·Memᴰ, List·Memᴰ·cases-cons, List·Memᴰ·head, List·Memᴰ·not-nil, List·Memᴰ·tail, [], _++_, _∷_}
 use mathlib.Core.Bool.{Bool, _||_, false, not, true}
-use Prim.Native.Nat.{_<_, _≤_}
+use Prim.Native.Nat.{_<_, _≤_, zero}
 use native.Mathlib.Omega.{arith}
 use lib.Dec.{T, leb, leb→le, nleb→lt}
 use Rattle.basis.specs.declared.Literal.{Literal}
 use Rattle.lists.proofs.Denials.{not-or, not-or-in}
 use Rattle.lists.proofs.Tests.{F→eq, Said, T→eq, fails, holds, said}
 use Rattle.calculus.specs.Clauses.{complement, sameLiteral}
-use Rattle.calculus.specs.Cuts.{CutBefore, CutJustBefore, LevelCounts, LevelShared}
-use Rattle.calculus.specs.Trails.{Entry, Trail, background, cut, decided, decisions, foreground, isDecision, isLiteral, levelOf, onTrail, propagated}
+use Rattle.calculus.specs.Cuts.{CutBefore, CutJustBefore, IsLargestLevel, LargestLevel, LevelCounts, LevelShared}
+use Rattle.calculus.specs.Trails.{Entry, Trail, background, cut, decided, decisions, foreground, isDecision, isLiteral, largestLevel, levelOf, onTrail, propagated}
 use Rattle.calculus.proofs.Merged.{sameLiteral-refl}
 use Rattle.calculus.proofs.OnTrail.{complement-twice, not-on-in, not-on-out}
 
--- An entry that is neither the literal not-or-in its complement does not tell its level.
+-- An entry that is neither the literal nor its complement does not tell its level.
 level-later : (l : Literal) (e : Entry) (t : Trail) → T (not (isLiteral l e || isLiteral (complement l) e)) → levelOf l (e ∷ t) ≡ levelOf l t
 level-later l e t h = rw (F→eq (isLiteral l e || isLiteral (complement l) e) h)
 
@@ -38,6 +38,27 @@ level-shared l (e ∷ t) = rw (complement-twice l, or-comm (isLiteral (complemen
     or-comm true false = refl
     or-comm false true = refl
     or-comm false false = refl
+
+pub largest-level : LargestLevel
+largest-level t [] = record { at-most = λ m i. absurd (List·Memᴰ·not-nil i); reached = inl (refl, refl) }
+largest-level t (l ∷ D) = go (largest-level t D) (said (leb (largestLevel t D) (levelOf l t)))
+  where
+    most : IsLargestLevel t D (largestLevel t D) → (m : Literal) → (m ≡ l) ⊎ List·Memᴰ m D → levelOf m t ≤ largestLevel t (l ∷ D)
+    most r m (inl e) = rw e (omega arith)
+    most r m (inr h) = let k = r .at-most m h in omega arith
+
+    reach : levelOf l t < largestLevel t D → ((D ≡ []) × (largestLevel t D ≡ zero)) ⊎ ((m : Literal) × List·Memᴰ m D × (levelOf m t ≡ largestLevel t D)) →
+        (m : Literal) × List·Memᴰ m (l ∷ D) × (levelOf m t ≡ largestLevel t (l ∷ D))
+    reach h (inl (d, e)) = absurd (omega arith)
+    reach h (inr (m, i, e)) = (m, List·Memᴰ·tail i, omega arith)
+
+    go : IsLargestLevel t D (largestLevel t D) → Said (leb (largestLevel t D) (levelOf l t)) → IsLargestLevel t (l ∷ D) (largestLevel t (l ∷ D))
+    go r (holds h) =
+        let k = leb→le (largestLevel t D) (levelOf l t) h in
+        record { at-most = λ m i. most r m (List·Memᴰ·cases-cons i); reached = inr (l, List·Memᴰ·head refl, omega arith) }
+    go r (fails h) =
+        let k = nleb→lt (largestLevel t D) (levelOf l t) h in
+        record { at-most = λ m i. most r m (List·Memᴰ·cases-cons i); reached = inr (reach k (r .reached)) }
 
 pub cut-just-before : CutJustBefore
 cut-just-before i [] = record { gone = []; whole = refl; at-most = omega arith; just-before = inl refl }

@@ -14,16 +14,16 @@ use Rattle.basis.specs.declared.Literal.{Literal}
 use Rattle.lists.proofs.Tests.{Said, fails, holds, not-eqb, said}
 use Rattle.calculus.specs.Admission.{Admitted, fresh}
 use Rattle.calculus.specs.Clauses.{Clause, Instanced, ground, groundAtoms}
-use Rattle.calculus.specs.Conditions.{Allowed, literalAt}
+use Rattle.calculus.specs.Asks.{answer}
+use Rattle.calculus.specs.Conditions.{Allowed, Judged, literalAt}
 use Rattle.calculus.specs.FalseTools.{AcceptsAll, ByTheRules, Demand2ExcludesFive, Demand3AloneAdmits, ExcludesFive, Invents, MeetsDemand2, OwnReplay, Refutation, Report, ThenNods, Tool, nodder, nodding, reached, refuser, workOnce}
-use Rattle.calculus.specs.Rules.{Answer, Judged, answer, isOne, next}
+use Rattle.calculus.specs.Rules.{Answer, isOne, next}
 use Rattle.calculus.specs.Runs.{restarted, stepsOf}
 use Rattle.calculus.specs.States.{Backtrack, Conflict, Decide, Factorize, Grow, Propagate, Resolve, Skip, State, Step, Unknown, clauseAt, clauses}
 use Rattle.calculus.specs.Trails.{foreground, propagated}
 use Rattle.calculus.proofs.Admitting.{admitted-exactly}
-use Rattle.calculus.proofs.Answers.{accepted-leads-on, answer-unique, refused-hands-back}
+use Rattle.calculus.proofs.Answers.{accepted-exactly-if-allowed, answer-unique}
 use Rattle.calculus.proofs.Certificates.{judged-yes}
-use Rattle.calculus.proofs.Conditions.{accepted-exactly-if-allowed}
 use Rattle.calculus.proofs.Trails.{steps-push}
 
 -- ---- one clause P ∨ Q without arguments, decided twice
@@ -126,14 +126,14 @@ module _ (constants : ℕ) (arities : List ℕ) (cs : List Clause) where
 
   again : (x : Step) → Allowed whole start x → next start x .conflict ≡ none → Again x
   again (Propagate c l τ) h calm = inl (steps-push (groundAtoms τ (clauseAt (clauses start) c .atoms)) (foreground (ground τ (literalAt (clauseAt (clauses start) c) l)) (propagated c l τ) ∷ []), refl)
-  again (Decide c l g τ) h calm = inl (ap (λ n. Decide c l n τ ∷ []) (sign-again g (h .sign-named)), refl)
+  again (Decide c l g τ) h calm = inl (ap (λ n. Decide c l n τ ∷ []) (sign-again g (h .1 .0)), refl)
   again (Conflict c τ) h calm = absurd (no-standing (sym calm))
-  again (Resolve l) h calm = absurd (no-standing (h .standing))
-  again (Factorize i j) h calm = absurd (no-standing (h .standing))
-  again Skip h calm = absurd (no-standing (h .standing))
-  again (Backtrack l) h calm = absurd (no-standing (h .standing))
+  again (Resolve l) h calm = absurd (no-standing (h .0))
+  again (Factorize i j) h calm = absurd (no-standing (h .0))
+  again Skip h calm = absurd (no-standing (h .0))
+  again (Backtrack l) h calm = absurd (no-standing (h .0))
   again (Grow n) h calm = inr (refl, refl)
-  again (Unknown r) h calm = absurd h
+  again (Unknown r) h calm = absurd (h .0)
 
   module _ (right : State → Step → Answer) (by-rules : (s : State) (x : Step) → Judged whole s x (right s x)) where
     first-replays : (x : Step) → right start x .state .conflict ≡ none → Replays (workOnce right) (right start x .state)
@@ -149,9 +149,9 @@ module _ (constants : ℕ) (arities : List ℕ) (cs : List Clause) where
         go : Said (eqb (a .number) accepted) → Replays (workOnce right) (a .state)
         go (holds t) =
             let n = eqb→eq (a .number) accepted t in
-            let e = accepted-leads-on whole start x a (by-rules start x) n in
+            let e = by-rules start x .next-state n in
             replayed-so n e (again x (accepted-exactly-if-allowed whole start x a (by-rules start x) .0 n) (subst (λ (s : State). s .conflict ≡ none) e calm))
-        go (fails t) = rw (refused-hands-back whole start x a (by-rules start x) (not-eqb (a .number) accepted t)) (tt, refl)
+        go (fails t) = rw (by-rules start x .handed-back (not-eqb (a .number) accepted t)) (tt, refl)
 
     nodding-replays : (xs : List Step) → nodding right start xs .conflict ≡ none → Replays (workOnce right) (nodding right start xs)
     nodding-replays [] calm = (tt, refl)

@@ -21,11 +21,13 @@ use Rattle.calculus.specs.Checks.{between}
 use Rattle.calculus.specs.Class.{InClass, Limited}
 use Rattle.calculus.specs.Clauses.{Clause, Instanced, complement, ground, groundAtoms, noLiteral, renameAtom, sameLiteral, under}
 use Rattle.calculus.specs.Merging.{factored, reason, resolvent}
-use Rattle.calculus.specs.Rules.{asks, backLevel, clauseExists, complementInConflict, decidedLiteral, instanceFits, isOne, lastIsPropagated, lastLiteral, lastReason, levelAfterSkip, literalExists, literalInstance, next, otherInstances, propagatedTrail}
+use Rattle.calculus.specs.Asks.{asks, clauseExists, complementInConflict, instanceFits, lastIsPropagated, literalExists}
+use Rattle.calculus.specs.Rules.{backLevel, decidedLiteral, isOne, lastLiteral, lastReason, levelAfterSkip, literalInstance, next, otherInstances, propagatedTrail}
 use Rattle.calculus.specs.States.{Backtrack, Conflict, Decide, Factorize, Grow, Propagate, Resolve, Skip, State, Step, Unknown, clauseAt, clauses, conflictOf, stands}
 use Rattle.calculus.specs.Trails.{Entry, Origin, Trail, atomsOf, background, cut, decided, decisions, foreground, isDecision, isFalse, levelOf, onTrail, propagated, undefined}
 use Rattle.calculus.specs.Truth.{Follows, Reading, True}
-use Rattle.calculus.proofs.Answers.{Accepted, AllOk}
+use Rattle.calculus.proofs.Answers.{Accepted}
+use Rattle.calculus.proofs.Asks.{AllOk}
 use Rattle.calculus.proofs.Class.{factored-class, factored-limited, limited-of, placed, reason-class, reason-own-lt, resolvent-class}
 use Rattle.calculus.proofs.Derived.{factored-atoms, factored-literals, factored-sized, reason-atoms, reason-own, reason-rest, reason-sized, reason-within, resolvent-atoms, resolvent-literals, resolvent-sized}
 use Rattle.calculus.proofs.Instances.{Inside, Sized}
@@ -35,31 +37,31 @@ use Rattle.calculus.proofs.OnTrail.{complement-twice}
 use Rattle.calculus.proofs.Trails.{Below, Built, DecOk, PropOk, StepOk, Tail, below, decisions-push, empty, group, grown, here, literalBy}
 use Rattle.calculus.proofs.Truths.{alike, factored-true, reason-true, resolvent-true}
 
--- What every clause held has: it is of the class, within the limits, and true wherever the input is.
-pub record Entailed (nums : Numbers) (arities : List ℕ) (input : List Clause) (C : Clause) : Type 1 where
+-- What every clause held has: it is of the class, within the limits, and true wherever the clauses `from` are.
+pub record Entailed (nums : Numbers) (arities : List ℕ) (from : List Clause) (C : Clause) : Type 1 where
   pub class : InClass arities C
   pub limited : Limited C
-  pub follows : Follows nums arities input C
+  pub follows : Follows nums arities from C
 
 -- A conflict N stands over the trail t: t is what is left of the trail t₀ that Conflict was accepted at.
-pub record Stands (nums : Numbers) (arities : List ℕ) (cs input : List Clause) (n : ℕ) (t : Trail) (N : Instanced) : Type 1 where
+pub record Stands (nums : Numbers) (arities : List ℕ) (cs from : List Clause) (n : ℕ) (t : Trail) (N : Instanced) : Type 1 where
   pub t₀ : Trail
   pub built : Built nums cs n t₀
   pub tail : Tail t t₀
   pub possible : Possible nums n (atomsOf t₀ ++ groundAtoms (N .instance) (N .clause .atoms))
-  pub held : Entailed nums arities input (N .clause)
+  pub held : Entailed nums arities from (N .clause)
   pub sized : Sized n (N .clause .variables) (N .instance)
   pub isfalse : (l : Literal) → List·Memᴰ l (map (ground (N .instance)) (N .clause .literals)) → T (isFalse t l)
 
-abbrev pub Now : Numbers → State → Option Instanced → Type 1
-Now nums s none = Lift {0, 1} (Built nums (clauses s) (s .constants) (s .trail))
-Now nums s (some N) = Stands nums (s .arities) (clauses s) (s .input) (s .constants) (s .trail) N
+abbrev pub Now : Numbers → List Clause → State → Option Instanced → Type 1
+Now nums from s none = Lift {0, 1} (Built nums (clauses s) (s .constants) (s .trail))
+Now nums from s (some N) = Stands nums (s .arities) (clauses s) from (s .constants) (s .trail) N
 
--- What every state reached has
-pub record Inv (nums : Numbers) (s : State) : Type 1 where
-  pub held : (C : Clause) → List·Memᴰ C (clauses s) → Entailed nums (s .arities) (s .input) C
+-- What every state reached from a start has, whose clauses were these
+pub record Inv (nums : Numbers) (from : List Clause) (s : State) : Type 1 where
+  pub held : (C : Clause) → List·Memᴰ C (clauses s) → Entailed nums (s .arities) from C
   pub level : s .level ≡ decisions (s .trail)
-  pub now : Now nums s (s .conflict)
+  pub now : Now nums from s (s .conflict)
 
 -- The places of a clause are among its variables.
 abbrev pub WellPlaced : Clause → Type 0
@@ -68,28 +70,28 @@ WellPlaced C = Inside (C .variables) (C .atoms) (C .literals)
 pub possible-sub : {nums : Numbers} {n : ℕ} {az bz : List Atom} → ((a : Atom) → List·Memᴰ a bz → List·Memᴰ a az) → Possible nums n az → Possible nums n bz
 possible-sub {nums} h p = record { value = p .value; at-zero = p .at-zero; rising = p .rising; every = λ a m. p .every a (h a m) }
 
--- A conflict without literals: no reading makes every input clause true.
-pub refuted : {nums : Numbers} {arities : List ℕ} {cs input : List Clause} {n : ℕ} {t : Trail} (N : Instanced) → Stands nums arities cs input n t N → N .clause .literals ≡ []
-    → (I : Reading nums arities) → ((K : Clause) → List·Memᴰ K input → True nums arities I K) → ⊥
+-- A conflict without literals: no reading makes every clause of `from` true.
+pub refuted : {nums : Numbers} {arities : List ℕ} {cs from : List Clause} {n : ℕ} {t : Trail} (N : Instanced) → Stands nums arities cs from n t N → N .clause .literals ≡ []
+    → (I : Reading nums arities) → ((K : Clause) → List·Memᴰ K from → True nums arities I K) → ⊥
 refuted {nums} N st e I h = st .held .follows I h (λ x. st .possible .value (under (N .instance) x)) (st .possible .at-zero)
     (λ a m. st .possible .every (renameAtom (under (N .instance)) a) (Memᴰ·append-right (atomsOf (st .t₀)) (Memᴰ·map (renameAtom (under (N .instance))) m)))
     (λ l m. absurd (List·Memᴰ·not-nil (subst (List·Memᴰ l) e m)))
 
-free : {nums : Numbers} (s : State) (o : Option Instanced) → Now nums s o → T (not (stands o)) → Built nums (clauses s) (s .constants) (s .trail)
-free {nums} s none w t = w .lower
-free {nums} s (some N) w t = absurd t
+free : {nums : Numbers} (from : List Clause) (s : State) (o : Option Instanced) → Now nums from s o → T (not (stands o)) → Built nums (clauses s) (s .constants) (s .trail)
+free from s none w t = w .lower
+free from s (some N) w t = absurd t
 
-stood : {nums : Numbers} (s : State) (o : Option Instanced) → Now nums s o → T (stands o) → Stands nums (s .arities) (clauses s) (s .input) (s .constants) (s .trail) (conflictOf o)
-stood {nums} s none w t = absurd t
-stood {nums} s (some N) w t = w
+stood : {nums : Numbers} {from : List Clause} (s : State) (o : Option Instanced) → Now nums from s o → T (stands o) → Stands nums (s .arities) (clauses s) from (s .constants) (s .trail) (conflictOf o)
+stood {nums} {from} s none w t = absurd t
+stood {nums} {from} s (some N) w t = w
 
 -- ---- Propagate, Decide, Conflict, Grow
-propagate-keeps : {nums : Numbers} (s : State) (c l : ℕ) (τ : List ℕ) → Inv nums s → Accepted nums s (Propagate c l τ) (next s (Propagate c l τ)) → Inv nums (next s (Propagate c l τ))
-propagate-keeps {nums} s c l τ v a = record {
+propagate-keeps : {nums : Numbers} {from : List Clause} (s : State) (c l : ℕ) (τ : List ℕ) → Inv nums from s → Accepted nums s (Propagate c l τ) (next s (Propagate c l τ)) → Inv nums from (next s (Propagate c l τ))
+propagate-keeps {nums} {from} s c l τ v a = record {
   held = v .held;
   level = v .level ∙ sym (decisions-push (groundAtoms τ (C .atoms)) (foreground (ground τ (getD (C .literals) (l - 1) noLiteral)) (propagated c l τ) ∷ s .trail));
   now = record {
-    lower = group (propagated c l τ) (free s (s .conflict) (v .now) (k .1 .0)) (
+    lower = group (propagated c l τ) (free from s (s .conflict) (v .now) (k .1 .0)) (
       and-l (clauseExists (clauses s) c) (literalExists C l && instanceFits (s .constants) C τ) (k .1 .1 .0),
       record { short = k .0; named = and-r (clauseExists (clauses s) c) (literalExists C l && instanceFits (s .constants) C τ) (k .1 .1 .0); undefined-yet = k .1 .1 .1 .0; others = k .1 .1 .1 .1 .0; possible = a .decides .0 (k .1 .1 .1 .1 .1 .0); room = k .1 .1 .1 .1 .1 .1 .0 },
     ) refl;
@@ -102,12 +104,12 @@ propagate-keeps {nums} s c l τ v a = record {
     k : AllOk (asks (a .possible) s (Propagate c l τ))
     k = a .checks
 
-decide-keeps : {nums : Numbers} (s : State) (c l g : ℕ) (τ : List ℕ) → Inv nums s → Accepted nums s (Decide c l g τ) (next s (Decide c l g τ)) → Inv nums (next s (Decide c l g τ))
-decide-keeps {nums} s c l g τ v a = record {
+decide-keeps : {nums : Numbers} {from : List Clause} (s : State) (c l g : ℕ) (τ : List ℕ) → Inv nums from s → Accepted nums s (Decide c l g τ) (next s (Decide c l g τ)) → Inv nums from (next s (Decide c l g τ))
+decide-keeps {nums} {from} s c l g τ v a = record {
   held = v .held;
   level = ap suc (v .level);
   now = record {
-    lower = group (decided c l (isOne g) τ) (free s (s .conflict) (v .now) (k .1 .1 .0)) (
+    lower = group (decided c l (isOne g) τ) (free from s (s .conflict) (v .now) (k .1 .1 .0)) (
       and-l (clauseExists (clauses s) c) (literalExists C l && instanceFits (s .constants) C τ) (k .1 .1 .1 .0),
       record { short = k .0; named = and-r (clauseExists (clauses s) c) (literalExists C l && instanceFits (s .constants) C τ) (k .1 .1 .1 .0); undefined-yet = k .1 .1 .1 .1 .0; room = k .1 .1 .1 .1 .1 .0 },
     ) refl;
@@ -120,13 +122,13 @@ decide-keeps {nums} s c l g τ v a = record {
     k : AllOk (asks (a .possible) s (Decide c l g τ))
     k = a .checks
 
-conflict-keeps : {nums : Numbers} (s : State) (c : ℕ) (τ : List ℕ) → Inv nums s → Accepted nums s (Conflict c τ) (next s (Conflict c τ)) → Inv nums (next s (Conflict c τ))
-conflict-keeps {nums} s c τ v a = record {
+conflict-keeps : {nums : Numbers} {from : List Clause} (s : State) (c : ℕ) (τ : List ℕ) → Inv nums from s → Accepted nums s (Conflict c τ) (next s (Conflict c τ)) → Inv nums from (next s (Conflict c τ))
+conflict-keeps {nums} {from} s c τ v a = record {
   held = v .held;
   level = v .level;
   now = record {
     t₀ = s .trail;
-    built = free s (s .conflict) (v .now) (k .1 .0);
+    built = free from s (s .conflict) (v .now) (k .1 .0);
     tail = here refl;
     possible = a .decides .0 (k .1 .1 .1 .1 .0);
     held = v .held C m;
@@ -144,21 +146,21 @@ conflict-keeps {nums} s c τ v a = record {
     m : List·Memᴰ C (clauses s)
     m = clause-held (clauses s) c (and-l (clauseExists (clauses s) c) (instanceFits (s .constants) C τ) (k .1 .1 .0))
 
-grow-keeps : {nums : Numbers} (s : State) (n : ℕ) → Inv nums s → Inv nums (next s (Grow n))
-grow-keeps {nums} s n v = record { held = v .held; level = refl; now = record { lower = empty refl } }
+grow-keeps : {nums : Numbers} {from : List Clause} (s : State) (n : ℕ) → Inv nums from s → Inv nums from (next s (Grow n))
+grow-keeps {nums} {from} s n v = record { held = v .held; level = refl; now = record { lower = empty refl } }
 
-skip-keeps : {nums : Numbers} (s : State) → Inv nums s → Accepted nums s Skip (next s Skip) → Inv nums (next s Skip)
-skip-keeps {nums} s v a = record { held = v .held; level = ap (levelAfterSkip (s .trail)) (v .level) ∙ skip-lowers-level (s .trail); now = go (s .conflict) (v .now) (k .0) (k .1 .1 .0) }
+skip-keeps : {nums : Numbers} {from : List Clause} (s : State) → Inv nums from s → Accepted nums s Skip (next s Skip) → Inv nums from (next s Skip)
+skip-keeps {nums} {from} s v a = record { held = v .held; level = ap (levelAfterSkip (s .trail)) (v .level) ∙ skip-lowers-level (s .trail); now = go (s .conflict) (v .now) (k .0) (k .1 .1 .0) }
   where
     k : AllOk (asks (a .possible) s Skip)
     k = a .checks
 
-    go : (o : Option Instanced) → Now nums s o → T (stands o) → T (not (complementInConflict (conflictOf o) (s .trail))) → Now nums (next s Skip) o
+    go : (o : Option Instanced) → Now nums from s o → T (stands o) → T (not (complementInConflict (conflictOf o) (s .trail))) → Now nums from (next s Skip) o
     go none w h b = absurd h
     go (some N) w h b = record { t₀ = w .t₀; built = w .built; tail = tail-shorter (s .trail) (w .tail); possible = w .possible; held = w .held; sized = w .sized; isfalse = λ l m. skip-false N (s .trail) b l m (w .isfalse l m) }
 
-factorize-keeps-conflict : {nums : Numbers} {arities : List ℕ} {cs input : List Clause} {n : ℕ} {t : Trail} (N : Instanced) (i j : ℕ) → T (literalExists (N .clause) i && (literalExists (N .clause) j && not (eqb i j))) → T (sameLiteral (literalInstance N i) (literalInstance N j)) → Stands nums arities cs input n t N → Stands nums arities cs input n t (factored N (i - 1) (j - 1))
-factorize-keeps-conflict {nums} {arities} {cs} {input} {n} {t} N i j k e w = record {
+factorize-keeps-conflict : {nums : Numbers} {arities : List ℕ} {cs from : List Clause} {n : ℕ} {t : Trail} (N : Instanced) (i j : ℕ) → T (literalExists (N .clause) i && (literalExists (N .clause) j && not (eqb i j))) → T (sameLiteral (literalInstance N i) (literalInstance N j)) → Stands nums arities cs from n t N → Stands nums arities cs from n t (factored N (i - 1) (j - 1))
+factorize-keeps-conflict {nums} {arities} {cs} {from} {n} {t} N i j k e w = record {
   t₀ = w .t₀;
   built = w .built;
   tail = w .tail;
@@ -212,19 +214,19 @@ factorize-keeps-conflict {nums} {arities} {cs} {input} {n} {t} N i j k e w = rec
     keep : (l : Literal) → List·Memᴰ l (map (ground (N .instance)) (without (max (i - 1) (j - 1)) (N .clause .literals))) → List·Memᴰ l (map (ground (N .instance)) (N .clause .literals))
     keep l m = let (x, y, z) = Memᴰ·of-map (ground (N .instance)) (without (max (i - 1) (j - 1)) (N .clause .literals)) m in Memᴰ·cast (sym z) (Memᴰ·map (ground (N .instance)) (without-out (max (i - 1) (j - 1)) (N .clause .literals) y))
 
-factorize-keeps : {nums : Numbers} (s : State) (i j : ℕ) → Inv nums s → Accepted nums s (Factorize i j) (next s (Factorize i j)) → Inv nums (next s (Factorize i j))
-factorize-keeps {nums} s i j v a = record { held = v .held; level = v .level; now = factorize-keeps-conflict (conflictOf (s .conflict)) i j (k .1 .0) (k .1 .1 .0) (stood s (s .conflict) (v .now) (k .0)) }
+factorize-keeps : {nums : Numbers} {from : List Clause} (s : State) (i j : ℕ) → Inv nums from s → Accepted nums s (Factorize i j) (next s (Factorize i j)) → Inv nums from (next s (Factorize i j))
+factorize-keeps {nums} {from} s i j v a = record { held = v .held; level = v .level; now = factorize-keeps-conflict (conflictOf (s .conflict)) i j (k .1 .0) (k .1 .1 .0) (stood s (s .conflict) (v .now) (k .0)) }
   where
     k : AllOk (asks (a .possible) s (Factorize i j))
     k = a .checks
 
-resolve-keeps-conflict : {nums : Numbers} (arities : List ℕ) (cs input : List Clause) (n : ℕ) → ((C : Clause) → List·Memᴰ C cs → Entailed nums arities input C)
-    → (N : Instanced) (j : ℕ) (t : Trail) → T (literalExists (N .clause) j) → Limited (resolvent N (j - 1) (lastReason cs t .of) (lastReason cs t .own) .clause) → T (lastIsPropagated t) → T (sameLiteral (complement (lastLiteral t)) (literalInstance N j)) → Stands nums arities cs input n t N
-    → Stands nums arities cs input n t (resolvent N (j - 1) (lastReason cs t .of) (lastReason cs t .own))
-resolve-keeps-conflict {nums} arities cs input n helds N j [] okj few p e w = absurd p
-resolve-keeps-conflict {nums} arities cs input n helds N j (background a ∷ t) okj few p e w = absurd p
-resolve-keeps-conflict {nums} arities cs input n helds N j (foreground l (decided c i b τ) ∷ t) okj few p e w = absurd p
-resolve-keeps-conflict {nums} arities cs input n helds N j (foreground l (propagated c i τ) ∷ t) okj few p e w = record {
+resolve-keeps-conflict : {nums : Numbers} (arities : List ℕ) (cs from : List Clause) (n : ℕ) → ((C : Clause) → List·Memᴰ C cs → Entailed nums arities from C)
+    → (N : Instanced) (j : ℕ) (t : Trail) → T (literalExists (N .clause) j) → Limited (resolvent N (j - 1) (lastReason cs t .of) (lastReason cs t .own) .clause) → T (lastIsPropagated t) → T (sameLiteral (complement (lastLiteral t)) (literalInstance N j)) → Stands nums arities cs from n t N
+    → Stands nums arities cs from n t (resolvent N (j - 1) (lastReason cs t .of) (lastReason cs t .own))
+resolve-keeps-conflict {nums} arities cs from n helds N j [] okj few p e w = absurd p
+resolve-keeps-conflict {nums} arities cs from n helds N j (background a ∷ t) okj few p e w = absurd p
+resolve-keeps-conflict {nums} arities cs from n helds N j (foreground l (decided c i b τ) ∷ t) okj few p e w = absurd p
+resolve-keeps-conflict {nums} arities cs from n helds N j (foreground l (propagated c i τ) ∷ t) okj few p e w = record {
   t₀ = w .t₀;
   built = w .built;
   tail = w .tail;
@@ -298,8 +300,8 @@ resolve-keeps-conflict {nums} arities cs input n helds N j (foreground l (propag
         subst (λ u. T (isFalse (foreground l (propagated c i τ) ∷ t) u)) q
         (or-r (sameLiteral (complement (ground τ x)) l) (isFalse t (ground τ x)) (or-second (sameLiteral (ground τ x) g) (isFalse t (ground τ x)) (allOf-out (λ m. sameLiteral (ground τ m) g || isFalse t (ground τ m)) (C .literals) (P .others) y) z))
 
-resolve-keeps : {nums : Numbers} (s : State) (j : ℕ) → Inv nums s → Accepted nums s (Resolve j) (next s (Resolve j)) → Inv nums (next s (Resolve j))
-resolve-keeps {nums} s j v a = record { held = v .held; level = v .level; now = resolve-keeps-conflict (s .arities) (clauses s) (s .input) (s .constants) (v .held) (conflictOf (s .conflict)) j (s .trail) (k .1 .0) (limited-of (resolvent (conflictOf (s .conflict)) (j - 1) (lastReason (clauses s) (s .trail) .of) (lastReason (clauses s) (s .trail) .own) .clause) (k .1 .1 .1 .1 .0)) (k .1 .1 .0) (k .1 .1 .1 .0) (stood s (s .conflict) (v .now) (k .0)) }
+resolve-keeps : {nums : Numbers} {from : List Clause} (s : State) (j : ℕ) → Inv nums from s → Accepted nums s (Resolve j) (next s (Resolve j)) → Inv nums from (next s (Resolve j))
+resolve-keeps {nums} {from} s j v a = record { held = v .held; level = v .level; now = resolve-keeps-conflict (s .arities) (clauses s) from (s .constants) (v .held) (conflictOf (s .conflict)) j (s .trail) (k .1 .0) (limited-of (resolvent (conflictOf (s .conflict)) (j - 1) (lastReason (clauses s) (s .trail) .of) (lastReason (clauses s) (s .trail) .own) .clause) (k .1 .1 .1 .1 .0)) (k .1 .1 .0) (k .1 .1 .1 .0) (stood s (s .conflict) (v .now) (k .0)) }
   where
     k : AllOk (asks (a .possible) s (Resolve j))
     k = a .checks
@@ -355,12 +357,12 @@ cut-undefined {nums} cs n {t₀} t i k b h lt = go (said (sameLiteral k (F .lit)
     go (fails e) = let p = sym (sameLiteral→eq (complement k) (F .lit) (or-second (sameLiteral k (F .lit)) (sameLiteral (complement k) (F .lit)) (F .hit) e)) in
         not-or-in (onTrail k (cut i t)) (onTrail (complement k) (cut i t)) (subst (λ q. T (not (onTrail q (cut i t)))) (ap complement p ∙ complement-twice k) (off (complement (F .lit)) U₂)) (subst (λ q. T (not (onTrail q (cut i t)))) p (off (F .lit) U₁))
 
-backtracked : {nums : Numbers} {arities : List ℕ} {cs input : List Clause} {n : ℕ} {t : Trail} (N : Instanced) (l : ℕ) → Stands nums arities cs input n t N
+backtracked : {nums : Numbers} {arities : List ℕ} {cs from : List Clause} {n : ℕ} {t : Trail} (N : Instanced) (l : ℕ) → Stands nums arities cs from n t N
     → T (literalExists (N .clause) l) → backLevel N l t < levelOf (literalInstance N l) t
     → Possible nums n (atomsOf (cut (backLevel N l t) t) ++ groundAtoms (N .instance) (N .clause .atoms))
     → T (leb (length (propagatedTrail (N .clause) (l - 1) (N .instance) (propagated (suc (length cs)) l (N .instance)) (cut (backLevel N l t) t))) 160)
     → Built nums (snoc cs (N .clause)) n (propagatedTrail (N .clause) (l - 1) (N .instance) (propagated (suc (length cs)) l (N .instance)) (cut (backLevel N l t) t))
-backtracked {nums} {arities} {cs} {input} {n} {t} N l w okl lt possible room =
+backtracked {nums} {arities} {cs} {from} {n} {t} N l w okl lt possible room =
     group (propagated (suc (length cs)) l (N .instance)) (built-more cs (N .clause) n (cut-built cs n t i (w .built) (w .tail) (cut-at i t (omega (arith, level-le (literalInstance N l) t))))) (
       ok-new cs (N .clause),
       subst (λ K. PropOk nums n (cut i t) K (suc (length cs)) l (N .instance)) q
@@ -378,8 +380,8 @@ backtracked {nums} {arities} {cs} {input} {n} {t} N l w okl lt possible room =
     each m h (inl e) = or-either (sameLiteral (ground (N .instance) m) (literalInstance N l)) (isFalse (cut i t) (ground (N .instance) m)) (inl (subst (λ u. T (sameLiteral (ground (N .instance) m) (ground (N .instance) u))) e (sameLiteral-refl (ground (N .instance) m))))
     each m h (inr k) = or-either (sameLiteral (ground (N .instance) m) (literalInstance N l)) (isFalse (cut i t) (ground (N .instance) m)) (inr (cut-false i (ground (N .instance) m) t (w .isfalse (ground (N .instance) m) (Memᴰ·map (ground (N .instance)) h)) (level-at-most (ground (N .instance) m) t (otherInstances N l) (Memᴰ·map (ground (N .instance)) k))))
 
-backtrack-keeps : {nums : Numbers} (s : State) (l : ℕ) → Inv nums s → Accepted nums s (Backtrack l) (next s (Backtrack l)) → Inv nums (next s (Backtrack l))
-backtrack-keeps {nums} s l v a = record {
+backtrack-keeps : {nums : Numbers} {from : List Clause} (s : State) (l : ℕ) → Inv nums from s → Accepted nums s (Backtrack l) (next s (Backtrack l)) → Inv nums from (next s (Backtrack l))
+backtrack-keeps {nums} {from} s l v a = record {
   held = λ C m. helds C (List·Memᴰ·append-cases (clauses s) (subst (List·Memᴰ C) (sym asc) m));
   level = sym (decisions-push (groundAtoms (N .instance) (N .clause .atoms)) (foreground (literalInstance N l) (propagated (suc (length (clauses s))) l (N .instance)) ∷ cut i (s .trail)) ∙ cut-at i (s .trail) (omega (arith, lt, level-le (literalInstance N l) (s .trail))) .depth);
   now = record { lower = subst (λ cs. Built nums cs (s .constants) (next s (Backtrack l) .trail)) asc (backtracked N l w (k .1 .0) lt (a .decides .0 (k .1 .1 .1 .1 .0)) (and-l (leb (length (next s (Backtrack l) .trail)) 160) (leb (suc (length (s .learned))) 48) (k .1 .1 .1 .1 .1 .0))) };
@@ -391,7 +393,7 @@ backtrack-keeps {nums} s l v a = record {
     N : Instanced
     N = conflictOf (s .conflict)
 
-    w : Stands nums (s .arities) (clauses s) (s .input) (s .constants) (s .trail) N
+    w : Stands nums (s .arities) (clauses s) from (s .constants) (s .trail) N
     w = stood s (s .conflict) (v .now) (k .0)
 
     i : ℕ
@@ -403,15 +405,15 @@ backtrack-keeps {nums} s l v a = record {
     asc : snoc (clauses s) (N .clause) ≡ s .input ++ (s .learned ++ (N .clause ∷ []))
     asc = append-assoc (s .input) (s .learned) (N .clause ∷ [])
 
-    helds : (C : Clause) → List·Memᴰ C (clauses s) ⊎ List·Memᴰ C (N .clause ∷ []) → Entailed nums (s .arities) (s .input) C
+    helds : (C : Clause) → List·Memᴰ C (clauses s) ⊎ List·Memᴰ C (N .clause ∷ []) → Entailed nums (s .arities) from C
     helds C (inl m) = v .held C m
-    helds C (inr m) = subst (Entailed nums (s .arities) (s .input)) (sym (List·Memᴰ·eq-of-singleton m)) (w .held)
+    helds C (inr m) = subst (Entailed nums (s .arities) from) (sym (List·Memᴰ·eq-of-singleton m)) (w .held)
 
 -- ---- every rule
-pub inv-step : {nums : Numbers} (s : State) (x : Step) (s′ : State) → Inv nums s → Accepted nums s x s′ → Inv nums s′
-inv-step {nums} s x s′ v a = subst (Inv nums) (sym (a .is)) (go x (record { possible = a .possible; decides = a .decides; checks = a .checks; is = refl }))
+pub inv-step : {nums : Numbers} {from : List Clause} (s : State) (x : Step) (s′ : State) → Inv nums from s → Accepted nums s x s′ → Inv nums from s′
+inv-step {nums} {from} s x s′ v a = subst (Inv nums from) (sym (a .is)) (go x (record { possible = a .possible; decides = a .decides; checks = a .checks; is = refl }))
   where
-    go : (x : Step) → Accepted nums s x (next s x) → Inv nums (next s x)
+    go : (x : Step) → Accepted nums s x (next s x) → Inv nums from (next s x)
     go (Propagate c l τ) a = propagate-keeps s c l τ v a
     go (Decide c l g τ) a = decide-keeps s c l g τ v a
     go (Conflict c τ) a = conflict-keeps s c τ v a

@@ -19,7 +19,7 @@ use Rattle.calculus.proofs.Class.{placed}
 use Rattle.calculus.proofs.Derived.{factored-literals, resolvent-literals}
 use Rattle.calculus.proofs.Instances.{Sized, swap-fix, upFrom-under}
 use Rattle.calculus.proofs.Merged.{distinct-in, distinct-out, joins-meet, sameAtom-refl, swap, under-join}
-use Rattle.calculus.proofs.Reasons.{between-says}
+use Rattle.calculus.proofs.Asks.{between-says}
 
 -- ---- groups
 

@@ -13,7 +13,7 @@ use Rattle.lists.specs.Lists.{upFrom}
 use Rattle.calculus.specs.Admission.{fresh}
 use Rattle.calculus.specs.Clauses.{Clause, Instanced}
 use Rattle.calculus.specs.Merging.{closeUp, merge, resolvent}
-use Rattle.calculus.specs.Rules.{answer}
+use Rattle.calculus.specs.Asks.{answer}
 use Rattle.calculus.specs.States.{Backtrack, Conflict, Decide, Propagate, State, Step}
 
 -- ---- two full clauses: 12 variables, 24 atoms, 8 literals

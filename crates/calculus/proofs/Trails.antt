@@ -15,11 +15,13 @@ use Rattle.basis.specs.declared.Atom.{Atom}
 use Rattle.basis.specs.declared.Literal.{Literal}
 use Rattle.lists.proofs.Tests.{F→eq, Said, T→eq, and-i, fails, holds, said}
 use Rattle.calculus.specs.Clauses.{Clause, ground, groundAtoms, noLiteral, sameAtom}
-use Rattle.calculus.specs.Rules.{clauseExists, decidedLiteral, instanceFits, literalExists, next, othersFalse, propagatedTrail}
+use Rattle.calculus.specs.Asks.{answer, asks, clauseExists, instanceFits, literalExists, othersFalse}
+use Rattle.calculus.specs.Rules.{decidedLiteral, next, propagatedTrail}
 use Rattle.calculus.specs.Runs.{AcceptedRun, plain, replayed, restarted, stepOf, stepsOf}
 use Rattle.calculus.specs.States.{State, Step, clauseAt, clauses, updated}
 use Rattle.calculus.specs.Trails.{Entry, Origin, Trail, appendAtoms, atomOnTrail, atomsOf, background, decided, decisions, foreground, propagated, undefined}
-use Rattle.calculus.proofs.Answers.{Accepted, accepted-next}
+use Rattle.calculus.proofs.Answers.{Accepted, judged-by, possible-none}
+use Rattle.calculus.proofs.Asks.{pass}
 use Rattle.calculus.proofs.Merged.{sameAtom→eq}
 
 pub data Tail (t : Trail) : Trail → Type 0 where
@@ -99,9 +101,6 @@ module _ (nums : Numbers) (cs : List Clause) (n : ℕ) where
     pub has : (a : Atom) → List·Memᴰ a (atomsBy cs m) → List·Memᴰ a (atomsOf t₀)
 
 -- ---- replay
-pub possible-none : (nums : Numbers) (n : ℕ) → Possible nums n []
-possible-none nums n = record { value = nums .counted; at-zero = nums .counted-zero; rising = λ i h k. nums .counted-rises i; every = λ a m. absurd (List·Memᴰ·not-nil m) }
-
 replay-step : (nums : Numbers) (s : State) (t : Trail) (m : Origin) → StepOk nums (clauses s) (s .constants) t m → Accepted nums (updated s t (decisions t) none) (stepOf m) (updated s (grown (clauses s) m t) (decisions (grown (clauses s) m t)) none)
 replay-step nums s t (propagated c l τ) k = record {
   possible = true;
@@ -116,8 +115,8 @@ replay-step nums s t (decided c l false τ) k = record { possible = true; decide
 accepted-more : {nums : Numbers} {s s₁ s′ : State} {xs : List Step} (x : Step) → AcceptedRun (plain nums) s xs s₁ → Accepted nums s₁ x s′ → AcceptedRun (plain nums) s (xs ++ (x ∷ [])) s′
 accepted-more {nums} {s} {s₁} {s′} x (AcceptedRun.over e) d =
     subst (λ q. AcceptedRun (plain nums) q (x ∷ []) s′) (sym e)
-    (AcceptedRun.then (record { number = zero; place = zero; state = next s₁ x })
-    (record { possible = d .possible; decides = d .decides; is = sym (accepted-next (d .possible) s₁ x (d .checks)) }) refl (AcceptedRun.over (sym (d .is))))
+    (AcceptedRun.then (answer (d .possible) s₁ x) (judged-by nums (d .possible) s₁ x (d .decides)) (pass (asks (d .possible) s₁ x) (d .checks))
+    (AcceptedRun.over (rw (pass (asks (d .possible) s₁ x) (d .checks)) (sym (d .is)))))
 accepted-more x (AcceptedRun.then a j z r) d = AcceptedRun.then a j z (accepted-more x r d)
 
 -- A built trail is built again by the steps behind its foreground entries.

@@ -1,7 +1,7 @@
--- When each rule may be used: its side conditions in the paper's words, and that a step is accepted exactly when they hold.
--- Proved in proofs/Conditions.antt.
+-- When each rule may be used, in the paper's words: its side conditions with the refusal given where one does not hold, and with them the
+-- answer to a step. The paper's sections "The rules" and "Refusal numbers".
 use mathlib.Core.Path.{_≡_}
-use mathlib.Core.Logic.{_↔_, _⊎_}
+use mathlib.Core.Logic.{_⊎_}
 use mathlib.Core.List.{List, List·Memᴰ, [], _++_, _∷_}
 use mathlib.Core.Option.{none, some}
 use Prim.Native.Nat.{_+_, _-_, _<_, _≤_, zero, ℕ}
@@ -9,14 +9,14 @@ use lib.ListN.{getD, length}
 use Rattle.basis.specs.Atoms.{Possible}
 use Rattle.basis.specs.Limits.{mostConstants, mostEntries, mostLearned, mostVariables}
 use Rattle.basis.specs.Numbers.{Numbers}
-use Rattle.basis.specs.Refusals.{accepted}
+use Rattle.basis.specs.Refusals.{aboveLimit, accepted, alreadyDefined, keptNotPossible, noEntry, noRoom, noSuch, notAbove, notFalse, notPossible, outOfRange, unknownRule, wrongLiteral, wrongMoment}
 use Rattle.basis.specs.declared.Literal.{Literal}
 use Rattle.calculus.specs.Class.{Limited}
 use Rattle.calculus.specs.Clauses.{Clause, Instanced, complement, ground, groundAtoms, noLiteral}
 use Rattle.calculus.specs.OnTrail.{False, Undefined}
-use Rattle.calculus.specs.Rules.{Answer, Judged, decidedLiteral, isOne, literalInstance, next, otherInstances}
+use Rattle.calculus.specs.Rules.{Answer, backLevel, decidedLiteral, isOne, lastLiteral, literalInstance, next, otherInstances}
 use Rattle.calculus.specs.States.{Backtrack, Conflict, Decide, Factorize, Grow, Propagate, Resolve, Skip, State, Step, Unknown, clauseAt, clauses, conflictOf}
-use Rattle.calculus.specs.Trails.{Trail, atomsOf, background, cut, foreground, levelOf, propagated}
+use Rattle.calculus.specs.Trails.{Origin, Trail, atomsOf, cut, foreground, levelOf, propagated}
 
 -- ---- what the steps name
 
@@ -31,7 +31,6 @@ literalAt C l = getD (C .literals) (l - 1) noLiteral
 
 -- ""Instance" means variables replaced by constants": each variable of the clause has one of the constants.
 pub record InstanceOf (constants : ℕ) (C : Clause) (τ : List ℕ) : Type 0 where
-  pub short : length τ ≤ mostVariables
   pub for-each-variable : length τ ≡ C .variables
   pub of-constants : (b : ℕ) → List·Memᴰ b τ → (1 ≤ b) × (b ≤ constants)
 
@@ -43,118 +42,152 @@ pub record LastPropagated (t : Trail) (l : Literal) : Type 0 where
   pub earlier : Trail
   pub is : t ≡ foreground l (propagated clause literal instance) ∷ earlier
 
--- "The last entry goes, if it is an atom or if its complement is not in the conflict."
-abbrev pub LastGoes : Instanced → Trail → Type 0
-LastGoes N [] = ⊥
-LastGoes N (foreground l o ∷ t) = (m : Literal) → List·Memᴰ m (N .clause .literals) → ¬ (complement l ≡ ground (N .instance) m)
-LastGoes N (background a ∷ t) = Unit {0}
+-- If the last entry is a literal, its complement is not in the conflict.
+abbrev pub ComplementNotIn : Instanced → Trail → Type 0
+ComplementNotIn K t = (l : Literal) (o : Origin) (earlier : Trail) → t ≡ foreground l o ∷ earlier → (m : Literal) → List·Memᴰ m (K .clause .literals) → ¬ (complement l ≡ ground (K .instance) m)
 
--- i is the largest level of the literals D, "0 if D is empty".
-pub record IsLargestLevel (t : Trail) (D : List Literal) (i : ℕ) : Type 0 where
-  pub at-most : (m : Literal) → List·Memᴰ m D → levelOf m t ≤ i
-  pub reached : ((D ≡ []) × (i ≡ zero)) ⊎ ((m : Literal) × List·Memᴰ m D × (levelOf m t ≡ i))
+-- ---- the side conditions
 
--- ---- the rules
+-- A condition, and the refusal given where it does not hold
+pub record Condition : Type 1 where
+  pub Holds : Type 0
+  pub refusal : ℕ
 
--- "1 Propagate (clause, literal L, instance)". C is the clause numbered c, L its literal numbered l.
-pub record MayPropagate (N : Numbers) (s : State) (c l : ℕ) (τ : List ℕ) (C : Clause) (L : Literal) : Type 0 where
-  pub clause-named : Names (clauses s) c
-  pub literal-named : Names (C .literals) l
-  pub instance : InstanceOf (s .constants) C τ
-  -- "No conflict."
-  pub no-conflict : s .conflict ≡ none
-  -- "L's instance is undefined;"
-  pub undefined : Undefined (s .trail) (ground τ L)
-  -- "every literal with another instance is false;"
-  pub others-false : (m : Literal) → List·Memᴰ m (C .literals) → ¬ (ground τ m ≡ ground τ L) → False (s .trail) (ground τ m)
-  -- "trail atoms and the clause's atoms together are possible."
-  pub possible : Possible N (s .constants) (atomsOf (s .trail) ++ groundAtoms τ (C .atoms))
-  -- "The trail holds at most 160 entries."
-  pub room : length (next s (Propagate c l τ) .trail) ≤ mostEntries
+infix 68 _otherwise_
+abbrev pub _otherwise_ : Type 0 → ℕ → Condition
+P otherwise n = record { Holds = P; refusal = n }
 
--- "2 Decide (clause, literal, sign, instance)"
-pub record MayDecide (s : State) (c l sign : ℕ) (τ : List ℕ) (C : Clause) : Type 0 where
-  pub clause-named : Names (clauses s) c
-  pub literal-named : Names (C .literals) l
-  pub sign-named : sign ≤ 1
-  pub instance : InstanceOf (s .constants) C τ
-  -- "No conflict."
-  pub no-conflict : s .conflict ≡ none
-  -- "The atom of the literal, with the sign given, is undefined."
-  pub undefined : Undefined (s .trail) (decidedLiteral C (l - 1) (isOne sign) τ)
-  -- "The trail holds at most 160 entries."
-  pub room : length (next s (Decide c l sign τ) .trail) ≤ mostEntries
+-- The conditions of each rule in the order in which they are tried
+abbrev pub conditions : Numbers → State → Step → List Condition
+conditions N s (Propagate c l τ) =
+    let C = clauseAt (clauses s) c in
+    let L = ground τ (literalAt C l) in
+    -- "a count .. above its limit"
+    (length τ ≤ mostVariables) otherwise aboveLimit ∷
+    -- "conflict standing for 1, 2, 3, 8"
+    (s .conflict ≡ none) otherwise wrongMoment ∷
+    -- "no such clause, literal or constant; wrong instance count"
+    (Names (clauses s) c × (Names (C .literals) l × InstanceOf (s .constants) C τ)) otherwise noSuch ∷
+    -- "literal already defined"
+    Undefined (s .trail) L otherwise alreadyDefined ∷
+    -- "a literal that must be false is not"
+    ((m : Literal) → List·Memᴰ m (C .literals) → ¬ (ground τ m ≡ L) → False (s .trail) (ground τ m)) otherwise notFalse ∷
+    -- "atoms not possible"
+    Possible N (s .constants) (atomsOf (s .trail) ++ groundAtoms τ (C .atoms)) otherwise notPossible ∷
+    -- "no room: .. trail"
+    (length (next s (Propagate c l τ) .trail) ≤ mostEntries) otherwise noRoom ∷ []
+conditions N s (Decide c l g τ) =
+    let C = clauseAt (clauses s) c in
+    (length τ ≤ mostVariables) otherwise aboveLimit ∷
+    -- "a Decide sign above 1"
+    (g ≤ 1) otherwise outOfRange ∷
+    (s .conflict ≡ none) otherwise wrongMoment ∷
+    (Names (clauses s) c × (Names (C .literals) l × InstanceOf (s .constants) C τ)) otherwise noSuch ∷
+    Undefined (s .trail) (decidedLiteral C (l - 1) (isOne g) τ) otherwise alreadyDefined ∷
+    (length (next s (Decide c l g τ) .trail) ≤ mostEntries) otherwise noRoom ∷ []
+conditions N s (Conflict c τ) =
+    let C = clauseAt (clauses s) c in
+    (length τ ≤ mostVariables) otherwise aboveLimit ∷
+    (s .conflict ≡ none) otherwise wrongMoment ∷
+    (Names (clauses s) c × InstanceOf (s .constants) C τ) otherwise noSuch ∷
+    ((m : Literal) → List·Memᴰ m (C .literals) → False (s .trail) (ground τ m)) otherwise notFalse ∷
+    Possible N (s .constants) (atomsOf (s .trail) ++ groundAtoms τ (C .atoms)) otherwise notPossible ∷ []
+conditions N s (Resolve l) =
+    let K = conflictOf (s .conflict) in
+    -- "none for 4 to 7"
+    (s .conflict ≡ some K) otherwise wrongMoment ∷
+    Names (K .clause .literals) l otherwise noSuch ∷
+    -- "no trail entry; last one not a propagated literal"
+    LastPropagated (s .trail) (lastLiteral (s .trail)) otherwise noEntry ∷
+    -- "not the complement"
+    (complement (lastLiteral (s .trail)) ≡ literalInstance K l) otherwise wrongLiteral ∷
+    -- "no room: clause limits counted after merging"
+    Limited (conflictOf (next s (Resolve l) .conflict) .clause) otherwise noRoom ∷ []
+conditions N s (Factorize i j) =
+    let K = conflictOf (s .conflict) in
+    (s .conflict ≡ some K) otherwise wrongMoment ∷
+    -- "Factorize of one literal twice"
+    (Names (K .clause .literals) i × (Names (K .clause .literals) j × (¬ (i ≡ j)))) otherwise noSuch ∷
+    -- "instances differ"
+    (literalInstance K i ≡ literalInstance K j) otherwise wrongLiteral ∷ []
+conditions N s Skip =
+    let K = conflictOf (s .conflict) in
+    (s .conflict ≡ some K) otherwise wrongMoment ∷
+    -- "no trail entry"
+    (¬ (s .trail ≡ [])) otherwise noEntry ∷
+    -- "complement in the conflict"
+    ComplementNotIn K (s .trail) otherwise wrongLiteral ∷ []
+conditions N s (Backtrack l) =
+    let K = conflictOf (s .conflict) in
+    let D = otherInstances K l in
+    let i = backLevel K l (s .trail) in
+    (s .conflict ≡ some K) otherwise wrongMoment ∷
+    Names (K .clause .literals) l otherwise noSuch ∷
+    -- "L again in D"
+    (¬ List·Memᴰ (literalInstance K l) D) otherwise wrongLiteral ∷
+    -- "L's level not above i"
+    (i < levelOf (literalInstance K l) (s .trail)) otherwise notAbove ∷
+    -- "kept and conflict atoms not possible"
+    Possible N (s .constants) (atomsOf (cut i (s .trail)) ++ groundAtoms (K .instance) (K .clause .atoms)) otherwise keptNotPossible ∷
+    -- "no room: .. trail, learned clauses"
+    ((length (next s (Backtrack l) .trail) ≤ mostEntries) × (length (s .learned) < mostLearned)) otherwise noRoom ∷ []
+conditions N s (Grow n) =
+    (s .conflict ≡ none) otherwise wrongMoment ∷
+    -- "Grow by 0"
+    (1 ≤ n) otherwise noSuch ∷
+    -- "no room: .. constants"
+    (s .constants + n ≤ mostConstants) otherwise noRoom ∷ []
+-- "unknown rule"
+conditions N s (Unknown r) = ⊥ otherwise unknownRule ∷ []
 
--- "3 Conflict (clause, instance)"
-pub record MayConflict (N : Numbers) (s : State) (c : ℕ) (τ : List ℕ) (C : Clause) : Type 0 where
-  pub clause-named : Names (clauses s) c
-  pub instance : InstanceOf (s .constants) C τ
-  -- "No conflict."
-  pub no-conflict : s .conflict ≡ none
-  -- "All literals false;"
-  pub all-false : (m : Literal) → List·Memᴰ m (C .literals) → False (s .trail) (ground τ m)
-  -- "trail and clause atoms together possible."
-  pub possible : Possible N (s .constants) (atomsOf (s .trail) ++ groundAtoms τ (C .atoms))
+-- The step is allowed: each of its conditions holds.
+abbrev pub EachHolds : List Condition → Type 0
+EachHolds [] = Unit {0}
+EachHolds (c ∷ cs) = c .Holds × EachHolds cs
 
--- "4 Resolve (literal L')". K is the conflict.
-pub record MayResolve (s : State) (l : ℕ) (K : Instanced) : Type 0 where
-  pub standing : s .conflict ≡ some K
-  pub literal-named : Names (K .clause .literals) l
-  -- "The last entry is a propagated literal, the complement of L'."
-  pub last-propagated : LastPropagated (s .trail) (complement (literalInstance K l))
-  -- "clause limits counted after merging"
-  pub room : Limited (conflictOf (next s (Resolve l) .conflict) .clause)
-
--- "5 Factorize (two different literals with the same instance)"
-pub record MayFactorize (s : State) (i j : ℕ) (K : Instanced) : Type 0 where
-  pub standing : s .conflict ≡ some K
-  pub literal-named : Names (K .clause .literals) i
-  pub other-named : Names (K .clause .literals) j
-  pub different : ¬ (i ≡ j)
-  pub same-instance : literalInstance K i ≡ literalInstance K j
-
--- "6 Skip"
-pub record MaySkip (s : State) (K : Instanced) : Type 0 where
-  pub standing : s .conflict ≡ some K
-  pub last-goes : LastGoes K (s .trail)
-
--- "7 Backtrack (literal L, the others D)"
-pub record MayBacktrack (N : Numbers) (s : State) (l : ℕ) (K : Instanced) : Type 0 where
-  pub standing : s .conflict ≡ some K
-  pub literal-named : Names (K .clause .literals) l
-  -- "L's instance is not in D;"
-  pub not-again : ¬ List·Memᴰ (literalInstance K l) (otherInstances K l)
-  -- "i is the largest level in D, 0 if D is empty;"
-  pub i : ℕ
-  pub largest : IsLargestLevel (s .trail) (otherInstances K l) i
-  -- "L's level is above i."
-  pub above : i < levelOf (literalInstance K l) (s .trail)
-  -- "Kept atoms and conflict atoms together are possible."
-  pub possible : Possible N (s .constants) (atomsOf (cut i (s .trail)) ++ groundAtoms (K .instance) (K .clause .atoms))
-  -- "The trail holds at most 160 entries", and there are at most 48 learned clauses.
-  pub trail-room : length (next s (Backtrack l) .trail) ≤ mostEntries
-  pub learned-room : length (s .learned) < mostLearned
-
--- "8 Grow (count)"
-pub record MayGrow (s : State) (n : ℕ) : Type 0 where
-  -- "No conflict."
-  pub no-conflict : s .conflict ≡ none
-  pub some-more : 1 ≤ n
-  -- "16 constants"
-  pub room : s .constants + n ≤ mostConstants
-
--- The step's conditions hold.
 abbrev pub Allowed : Numbers → State → Step → Type 0
-Allowed N s (Propagate c l τ) = let C = clauseAt (clauses s) c in MayPropagate N s c l τ C (literalAt C l)
-Allowed N s (Decide c l g τ) = MayDecide s c l g τ (clauseAt (clauses s) c)
-Allowed N s (Conflict c τ) = MayConflict N s c τ (clauseAt (clauses s) c)
-Allowed N s (Resolve l) = MayResolve s l (conflictOf (s .conflict))
-Allowed N s (Factorize i j) = MayFactorize s i j (conflictOf (s .conflict))
-Allowed N s Skip = MaySkip s (conflictOf (s .conflict))
-Allowed N s (Backtrack l) = MayBacktrack N s l (conflictOf (s .conflict))
-Allowed N s (Grow n) = MayGrow s n
-Allowed N s (Unknown r) = ⊥
+Allowed N s x = EachHolds (conditions N s x)
 
--- THE RULES AS THE PAPER WORDS THEM: a step is accepted exactly when its conditions hold.
-abbrev pub AcceptedExactlyIfAllowed : Numbers → Type 0
-AcceptedExactlyIfAllowed N = (s : State) (x : Step) (a : Answer) → Judged N s x a → (a .number ≡ accepted) ↔ Allowed N s x
+-- ---- the number and the place
+
+-- n is the refusal of the first condition that does not hold; 0 if all hold.
+abbrev pub FirstLacking : ℕ → List Condition → Type 0
+FirstLacking n [] = n ≡ accepted
+FirstLacking n (c ∷ cs) = ((¬ c .Holds) × (n ≡ c .refusal)) ⊎ (c .Holds × FirstLacking n cs)
+
+-- p is the number of the first literal from the left that must be false and whose instance is not.
+pub record FirstNotFalse (t : Trail) (τ : List ℕ) (MustBe : Literal → Type 0) (ls : List Literal) (p : ℕ) : Type 0 where
+  pub from-one : 1 ≤ p
+  pub there : p ≤ length ls
+  pub must-be : MustBe (getD ls (p - 1) noLiteral)
+  pub is-not : ¬ False t (ground τ (getD ls (p - 1) noLiteral))
+  pub those-before : (i : ℕ) → 1 ≤ i → i < p → MustBe (getD ls (i - 1) noLiteral) → False t (ground τ (getD ls (i - 1) noLiteral))
+
+-- "Refusal 12 names the first literal from the left whose instance is not false, of those that must be": for Propagate "every literal
+-- with another instance", for Conflict all. No other rule asks for it.
+abbrev pub NamesNotFalse : State → Step → ℕ → Type 0
+NamesNotFalse s (Propagate c l τ) p =
+    let C = clauseAt (clauses s) c in
+    FirstNotFalse (s .trail) τ (λ m. ¬ (ground τ m ≡ ground τ (getD (C .literals) (l - 1) noLiteral))) (C .literals) p
+NamesNotFalse s (Decide c l g τ) p = ⊥
+NamesNotFalse s (Conflict c τ) p = FirstNotFalse (s .trail) τ (λ m. Unit {0}) (clauseAt (clauses s) c .literals) p
+NamesNotFalse s (Resolve l) p = ⊥
+NamesNotFalse s (Factorize i j) p = ⊥
+NamesNotFalse s Skip p = ⊥
+NamesNotFalse s (Backtrack l) p = ⊥
+NamesNotFalse s (Grow n) p = ⊥
+NamesNotFalse s (Unknown r) p = ⊥
+
+-- ---- the answer
+
+-- THE RULES: a is the answer to step x at state s, over the numbers N.
+pub record Judged (N : Numbers) (s : State) (x : Step) (a : Answer) : Type 0 where
+  -- "A step's reasons are tried in rising order."
+  pub first-lacking : FirstLacking (a .number) (conditions N s x)
+  -- The next state is the one the rule names;
+  pub next-state : a .number ≡ accepted → a .state ≡ next s x
+  -- "A refused step hands back the state it was given."
+  pub handed-back : ¬ (a .number ≡ accepted) → a .state ≡ s
+  -- Refusal 12 names a literal; "every other answer to a step has place 0".
+  pub named : a .number ≡ notFalse → NamesNotFalse s x (a .place)
+  pub no-place : ¬ (a .number ≡ notFalse) → a .place ≡ zero

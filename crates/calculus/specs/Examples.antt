@@ -12,7 +12,8 @@ use Rattle.basis.specs.declared.Atom.{Atom}
 use Rattle.basis.specs.declared.Literal.{Literal}
 use Rattle.calculus.specs.Admission.{Admitted, fresh}
 use Rattle.calculus.specs.Clauses.{Clause, Instanced}
-use Rattle.calculus.specs.Rules.{Answer, Judged, lastReason}
+use Rattle.calculus.specs.Conditions.{Judged}
+use Rattle.calculus.specs.Rules.{Answer, lastReason}
 use Rattle.calculus.specs.States.{Backtrack, Conflict, Decide, Factorize, Propagate, Resolve, Skip, State, Step, clauses}
 use Rattle.calculus.specs.Trails.{Entry, Trail, decided, foreground, propagated}
 

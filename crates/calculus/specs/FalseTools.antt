@@ -12,7 +12,8 @@ use Rattle.basis.specs.Numbers.{whole}
 use Rattle.basis.specs.Refusals.{accepted, noRoom}
 use Rattle.calculus.specs.Admission.{Admitted}
 use Rattle.calculus.specs.Clauses.{Instanced}
-use Rattle.calculus.specs.Rules.{Answer, Judged}
+use Rattle.calculus.specs.Conditions.{Judged}
+use Rattle.calculus.specs.Rules.{Answer}
 use Rattle.calculus.specs.Runs.{restarted, stepsOf}
 use Rattle.calculus.specs.States.{State, Step}
 

@@ -1,47 +1,18 @@
--- The rules: what each asks, in rising order of the refusal given where it is not so, and the state that it names. The paper's sections
--- "The rules" and "Refusal numbers".
-use mathlib.Core.Path.{_≡_}
-use mathlib.Core.Logic.{_↔_}
+-- What the rules look at, and the state that each names. The paper's section "The rules"; when a rule may be used stands in Conditions.antt.
 use mathlib.Core.List.{List, [], _∷_, _++_, map}
 use mathlib.Core.Option.{none, some}
-use mathlib.Core.Bool.{Bool, true, false, not, _&&_, _||_, cond}
+use mathlib.Core.Bool.{Bool, cond}
 use Prim.Native.Nat.{ℕ, zero, suc, _+_, _-_}
-use lib.Dec.{T, eqb, leb, ltb}
+use lib.Dec.{eqb}
 use lib.ListN.{length, getD}
-use Rattle.basis.specs.declared.Atom.{Atom}
-use Rattle.basis.specs.Limits.{mostVariables, mostLearned, mostConstants, mostEntries}
-use Rattle.basis.specs.Refusals.{accepted, aboveLimit, outOfRange, unknownRule, wrongMoment, noSuch, alreadyDefined, notFalse, notPossible, noEntry, wrongLiteral, notAbove, keptNotPossible, noRoom}
-use Rattle.basis.specs.Numbers.{Numbers}
-use Rattle.basis.specs.Atoms.{Possible}
-use Rattle.lists.specs.Lists.{anyOf, allOf, without}
+use Rattle.lists.specs.Lists.{without}
 use Rattle.basis.specs.declared.Literal.{Literal}
-use Rattle.calculus.specs.Clauses.{Clause, Instanced, noLiteral, noInstanced, sameLiteral, under, ground, groundAtoms, complement}
-use Rattle.calculus.specs.Trails.{Origin, propagated, decided, foreground, background, Trail, undefined, isFalse, isDecision, levelOf, largestLevel, cut, atomsOf, appendAtoms}
-use Rattle.calculus.specs.Checks.{between, Check, _or_, firstRefusal}
-use Rattle.calculus.specs.Class.{withinLimits}
+use Rattle.calculus.specs.Clauses.{Clause, Instanced, noLiteral, noInstanced, under, ground, groundAtoms}
+use Rattle.calculus.specs.Trails.{Origin, propagated, decided, foreground, background, Trail, isDecision, largestLevel, cut, appendAtoms}
 use Rattle.calculus.specs.Merging.{Reason, reason, resolvent, factored}
-use Rattle.calculus.specs.States.{State, Step, Propagate, Decide, Conflict, Resolve, Factorize, Skip, Backtrack, Grow, Unknown, clauses, clauseAt, stands, conflictOf, updated}
-
--- ---- which numbers name something
-
-abbrev pub clauseExists : List Clause → ℕ → Bool
-clauseExists cs c = between 1 (length cs) c
-
-abbrev pub literalExists : Clause → ℕ → Bool
-literalExists C l = between 1 (length (C .literals)) l
-
--- A constant for each variable, each among the n constants
-abbrev pub instanceFits : ℕ → Clause → List ℕ → Bool
-instanceFits n C τ = eqb (length τ) (C .variables) && allOf (between 1 n) τ
+use Rattle.calculus.specs.States.{State, Step, Propagate, Decide, Conflict, Resolve, Factorize, Skip, Backtrack, Grow, Unknown, clauses, clauseAt, conflictOf, updated}
 
 -- ---- what the rules look at
-
--- Every literal with another instance than g is false.
-abbrev pub othersFalse : Trail → List ℕ → Literal → List Literal → Bool
-othersFalse t τ g ls = allOf (λ m. sameLiteral (ground τ m) g || isFalse t (ground τ m)) ls
-
-abbrev pub allFalse : Trail → List ℕ → List Literal → Bool
-allFalse t τ ls = allOf (λ m. isFalse t (ground τ m)) ls
 
 -- "The atom of the literal, with the sign given": that of the clause's literal at i, from 0.
 abbrev pub decidedLiteral : Clause → ℕ → Bool → List ℕ → Literal
@@ -50,16 +21,6 @@ decidedLiteral C i b τ = let L = getD (C .literals) i noLiteral in record { pos
 -- A Decide sign as a truth value
 abbrev pub isOne : ℕ → Bool
 isOne n = eqb n 1
-
-abbrev pub nonempty : Trail → Bool
-nonempty [] = false
-nonempty (e ∷ t) = true
-
-abbrev pub lastIsPropagated : Trail → Bool
-lastIsPropagated [] = false
-lastIsPropagated (foreground l (propagated c i τ) ∷ t) = true
-lastIsPropagated (foreground l (decided c i b τ) ∷ t) = false
-lastIsPropagated (background a ∷ t) = false
 
 abbrev pub lastLiteral : Trail → Literal
 lastLiteral [] = noLiteral
@@ -72,12 +33,6 @@ lastReason cs [] = record { of = noInstanced; own = zero }
 lastReason cs (foreground l (propagated c i τ) ∷ t) = reason (clauseAt cs c) (i - 1) τ
 lastReason cs (foreground l (decided c i b τ) ∷ t) = record { of = noInstanced; own = zero }
 lastReason cs (background a ∷ t) = record { of = noInstanced; own = zero }
-
--- The last entry is a literal whose complement is in the conflict.
-abbrev pub complementInConflict : Instanced → Trail → Bool
-complementInConflict N [] = false
-complementInConflict N (foreground l o ∷ t) = anyOf (λ k. sameLiteral (complement l) (ground (N .instance) k)) (N .clause .literals)
-complementInConflict N (background a ∷ t) = false
 
 -- The instance of the conflict's literal l, and those of the others, D
 abbrev pub literalInstance : Instanced → ℕ → Literal
@@ -143,99 +98,6 @@ next s (Grow n) =
     record { arities = s .arities; trail = []; input = s .input; learned = s .learned; constants = s .constants + n; level = zero; conflict = none }
 next s (Unknown r) = s
 
--- ---- what each rule asks
-
--- The atoms that a rule asks to be possible together: those of the trail, or of its kept part, and the clause's
-abbrev pub question : State → Step → List Atom
-question s (Propagate c l τ) = atomsOf (s .trail) ++ groundAtoms τ (clauseAt (clauses s) c .atoms)
-question s (Decide c l g τ) = []
-question s (Conflict c τ) = atomsOf (s .trail) ++ groundAtoms τ (clauseAt (clauses s) c .atoms)
-question s (Resolve l) = []
-question s (Factorize i j) = []
-question s Skip = []
-question s (Backtrack l) =
-    let N = conflictOf (s .conflict) in
-    atomsOf (cut (backLevel N l (s .trail)) (s .trail)) ++ groundAtoms (N .instance) (N .clause .atoms)
-question s (Grow n) = []
-question s (Unknown r) = []
-
--- What a step asks; `possible` tells whether its question's atoms are.
-abbrev pub asks : Bool → State → Step → List Check
-asks possible s (Propagate c l τ) =
-    let C = clauseAt (clauses s) c in
-    let g = ground τ (getD (C .literals) (l - 1) noLiteral) in
-    leb (length τ) mostVariables or aboveLimit ∷
-    not (stands (s .conflict)) or wrongMoment ∷
-    (clauseExists (clauses s) c && (literalExists C l && instanceFits (s .constants) C τ)) or noSuch ∷
-    undefined (s .trail) g or alreadyDefined ∷
-    othersFalse (s .trail) τ g (C .literals) or notFalse ∷
-    possible or notPossible ∷
-    leb (length (next s (Propagate c l τ) .trail)) mostEntries or noRoom ∷ []
-asks possible s (Decide c l g τ) =
-    let C = clauseAt (clauses s) c in
-    leb (length τ) mostVariables or aboveLimit ∷
-    leb g 1 or outOfRange ∷
-    not (stands (s .conflict)) or wrongMoment ∷
-    (clauseExists (clauses s) c && (literalExists C l && instanceFits (s .constants) C τ)) or noSuch ∷
-    undefined (s .trail) (decidedLiteral C (l - 1) (isOne g) τ) or alreadyDefined ∷
-    leb (suc (length (s .trail))) mostEntries or noRoom ∷ []
-asks possible s (Conflict c τ) =
-    let C = clauseAt (clauses s) c in
-    leb (length τ) mostVariables or aboveLimit ∷
-    not (stands (s .conflict)) or wrongMoment ∷
-    (clauseExists (clauses s) c && instanceFits (s .constants) C τ) or noSuch ∷
-    allFalse (s .trail) τ (C .literals) or notFalse ∷
-    possible or notPossible ∷ []
-asks possible s (Resolve l) =
-    let N = conflictOf (s .conflict) in
-    stands (s .conflict) or wrongMoment ∷
-    literalExists (N .clause) l or noSuch ∷
-    lastIsPropagated (s .trail) or noEntry ∷
-    sameLiteral (complement (lastLiteral (s .trail))) (literalInstance N l) or wrongLiteral ∷
-    withinLimits (conflictOf (next s (Resolve l) .conflict) .clause) or noRoom ∷ []
-asks possible s (Factorize i j) =
-    let N = conflictOf (s .conflict) in
-    stands (s .conflict) or wrongMoment ∷
-    (literalExists (N .clause) i && (literalExists (N .clause) j && not (eqb i j))) or noSuch ∷
-    sameLiteral (literalInstance N i) (literalInstance N j) or wrongLiteral ∷ []
-asks possible s Skip =
-    stands (s .conflict) or wrongMoment ∷
-    nonempty (s .trail) or noEntry ∷
-    not (complementInConflict (conflictOf (s .conflict)) (s .trail)) or wrongLiteral ∷ []
-asks possible s (Backtrack l) =
-    let N = conflictOf (s .conflict) in
-    stands (s .conflict) or wrongMoment ∷
-    literalExists (N .clause) l or noSuch ∷
-    not (anyOf (sameLiteral (literalInstance N l)) (otherInstances N l)) or wrongLiteral ∷
-    ltb (backLevel N l (s .trail)) (levelOf (literalInstance N l) (s .trail)) or notAbove ∷
-    possible or keptNotPossible ∷
-    (leb (length (next s (Backtrack l) .trail)) mostEntries && leb (suc (length (s .learned))) mostLearned) or noRoom ∷ []
-asks possible s (Grow n) =
-    not (stands (s .conflict)) or wrongMoment ∷
-    leb 1 n or noSuch ∷
-    leb (s .constants + n) mostConstants or noRoom ∷ []
-asks possible s (Unknown r) = false or unknownRule ∷ []
-
--- The number, from 1, of the first that fails the test
-abbrev pub firstFailing : (Literal → Bool) → List Literal → ℕ
-firstFailing f [] = zero
-firstFailing f (l ∷ ls) = let r = suc (firstFailing f ls) in cond (f l) r 1
-
--- "Refusal 12 names the first literal from the left whose instance is not false, of those that must be."
-abbrev pub notFalsePlace : State → Step → ℕ
-notFalsePlace s (Propagate c l τ) =
-    let C = clauseAt (clauses s) c in
-    let g = ground τ (getD (C .literals) (l - 1) noLiteral) in
-    firstFailing (λ m. sameLiteral (ground τ m) g || isFalse (s .trail) (ground τ m)) (C .literals)
-notFalsePlace s (Decide c l g τ) = zero
-notFalsePlace s (Conflict c τ) = firstFailing (λ m. isFalse (s .trail) (ground τ m)) (clauseAt (clauses s) c .literals)
-notFalsePlace s (Resolve l) = zero
-notFalsePlace s (Factorize i j) = zero
-notFalsePlace s Skip = zero
-notFalsePlace s (Backtrack l) = zero
-notFalsePlace s (Grow n) = zero
-notFalsePlace s (Unknown r) = zero
-
 -- ---- the answer
 
 -- "The tool takes a state and one proposed step and hands a state back, with a number (0 for accepted) and a place." S is what is handed
@@ -247,17 +109,3 @@ pub record Reply (S : Type 0) : Type 0 where
 
 abbrev pub Answer : Type 0
 Answer = Reply State
-
--- "A refused step hands back the state it was given"; "every other answer to a step has place 0".
-abbrev pub answer : Bool → State → Step → Answer
-answer possible s x =
-    let n = firstRefusal (asks possible s x) in
-    let p = notFalsePlace s x in
-    let s′ = next s x in
-    record { number = n; place = cond (eqb n notFalse) p zero; state = cond (eqb n accepted) s′ s }
-
--- THE RULES: a is the answer to step x at state s, over the numbers N.
-pub record Judged (N : Numbers) (s : State) (x : Step) (a : Answer) : Type 0 where
-  pub possible : Bool
-  pub decides : T possible ↔ Possible N (s .constants) (question s x)
-  pub is : a ≡ answer possible s x

@@ -1,15 +1,20 @@
--- Runs: steps given one after the other, refused ones among them, and the run that demand 3 gives again.
+-- Runs: steps given one after the other, refused ones among them; where they begin; and the run that demand 3 gives again.
 use mathlib.Core.Path.{_≡_}
-use mathlib.Core.List.{List, [], _∷_, reverse}
+use mathlib.Core.List.{List, List·Memᴰ, [], _∷_, reverse}
 use mathlib.Core.Option.{none}
 use mathlib.Core.Bool.{cond}
-use Prim.Native.Nat.{zero}
+use Prim.Native.Nat.{_≤_, zero}
+use lib.ListN.{length}
+use Rattle.basis.specs.Limits.{mostLearned}
 use Rattle.basis.specs.Numbers.{Numbers}
 use Rattle.basis.specs.Refusals.{accepted}
-use Rattle.calculus.specs.Admission.{Admitted}
+use Rattle.calculus.specs.Admission.{Admitted, fresh}
+use Rattle.calculus.specs.Class.{InClass, Limited}
+use Rattle.calculus.specs.Clauses.{Clause}
 use Rattle.calculus.specs.Trails.{Origin, propagated, decided, foreground, background, Trail}
 use Rattle.calculus.specs.States.{State, Step, Propagate, Decide, updated}
-use Rattle.calculus.specs.Rules.{Answer, Judged, Reply}
+use Rattle.calculus.specs.Conditions.{Judged}
+use Rattle.calculus.specs.Rules.{Answer, Reply}
 
 -- A way to answer steps: what it runs over (a state, or a state with a memory beside it), the state that stands there, where a run begins,
 -- and the answers that it gives.
@@ -38,16 +43,31 @@ pub data AcceptedRun (J : Judge) : J .Over → List Step → J .Over → Type 0 
   then : {o o′ : J .Over} {x : Step} {xs : List Step} (a : Reply (J .Over)) → J .Gives o x a → a .number ≡ accepted → AcceptedRun J (a .state) xs o′
       → AcceptedRun J o (x ∷ xs) o′
 
--- "Only admission makes a state and only steps change it": there are admitted clauses and a run from them.
+-- "Start again from an empty trail at level 0, with the input clauses, constants and learned clauses held at the end."
+abbrev pub restarted : State → State
+restarted s = updated s [] zero none
+
+-- Where a run may begin: admitted input clauses, learned clauses of the class and within the limits, nothing on the trail, no conflict.
+pub record Start (s : State) : Type 0 where
+  pub admitted : Admitted (fresh (s .constants) (s .arities) (s .input))
+  pub few-learned : length (s .learned) ≤ mostLearned
+  pub in-class : (C : Clause) → List·Memᴰ C (s .learned) → InClass (s .arities) C
+  pub limited : (C : Clause) → List·Memᴰ C (s .learned) → Limited C
+  pub empty : s ≡ restarted s
+
+-- "Only admission makes a state and only steps change it": there is a start and a run from it.
 pub record Reached (J : Judge) (o : J .Over) : Type 0 where
   pub first : State
   pub steps : List Step
-  pub admitted : Admitted first
+  pub start : Start first
   pub run : Run J (J .start first) steps o
 
--- Reached is what admission makes, and what a step leads to from there. Both are proved in proofs/Runs.antt.
-abbrev pub AdmittedReached : Type 1
-AdmittedReached = (J : Judge) (s : State) → Admitted s → Reached J (J .start s)
+-- Reached is what admission makes, every other start, and what a step leads to from there. Proved in proofs/Runs.antt.
+abbrev pub AdmittedStarts : Type 0
+AdmittedStarts = (s : State) → Admitted s → Start s
+
+abbrev pub StartReached : Type 1
+StartReached = (J : Judge) (s : State) → Start s → Reached J (J .start s)
 
 abbrev pub StepsKeepReached : Type 1
 StepsKeepReached = (J : Judge) (o : J .Over) (x : Step) (a : Reply (J .Over)) → Reached J o → J .Gives o x a → Reached J (a .state)
@@ -74,7 +94,3 @@ stepsOf (background a ∷ t) = stepsOf t
 -- "Give, left to right, the one Propagate or Decide behind each foreground entry of the final trail."
 abbrev pub replayed : Trail → List Step
 replayed t = reverse (stepsOf t)
-
--- "Start again from an empty trail at level 0, with the input clauses, constants and learned clauses held at the end."
-abbrev pub restarted : State → State
-restarted s = updated s [] zero none

@@ -1,4 +1,4 @@
--- Each check says its condition, so the first check that fails is the first condition that does not hold.
+-- Each check of Asks.antt says its condition of Conditions.antt, so the first check that fails is the first condition that does not hold.
 use mathlib.Core.Path.{_∙_, _≡_, ap, refl}
 use mathlib.Core.Logic.{_↔_, _⊎_, inl, inr}
 use mathlib.Core.List.{List, List·Memᴰ, Memᴰ·cast, [], _∷_}
@@ -11,16 +11,18 @@ use lib.ListN.{length}
 use Rattle.basis.specs.Atoms.{Possible}
 use Rattle.basis.specs.Limits.{mostAtoms, mostConstants, mostEntries, mostLearned, mostLiterals, mostVariables}
 use Rattle.basis.specs.Numbers.{Numbers}
+use Rattle.basis.specs.Refusals.{accepted}
 use Rattle.basis.specs.declared.Literal.{Literal}
-use Rattle.lists.proofs.Meanings.{all-says, and-says, any-says, eqb-says, leb-says, ltb-says, not-says, or-says, says-also}
+use Rattle.lists.proofs.Meanings.{_&_, all-says, and-says, any-says, eqb-says, leb-says, ltb-says, not-says, or-says, says-also}
+use Rattle.lists.proofs.Tests.{T→eq}
 use Rattle.lists.specs.Lists.{allOf, anyOf}
 use Rattle.calculus.specs.Checks.{Check, _or_, between, firstRefusal}
 use Rattle.calculus.specs.Class.{Limited, withinLimits}
 use Rattle.calculus.specs.Clauses.{Clause, Instanced, complement, ground, sameLiteral}
-use Rattle.calculus.specs.Conditions.{LastPropagated, Names, literalAt}
+use Rattle.calculus.specs.Asks.{allFalse, asks, clauseExists, complementInConflict, instanceFits, lastIsPropagated, literalExists, nonempty, othersFalse, question}
+use Rattle.calculus.specs.Conditions.{ComplementNotIn, Condition, EachHolds, FirstLacking, InstanceOf, LastPropagated, Names, _otherwise_, conditions, literalAt}
 use Rattle.calculus.specs.OnTrail.{False, On, Undefined}
-use Rattle.calculus.specs.Reasons.{ComplementNotIn, Condition, FirstLacking, RefusedForFirst, _otherwise_, conditions, later-lacks, none-lacks, this-lacks}
-use Rattle.calculus.specs.Rules.{Answer, allFalse, asks, backLevel, clauseExists, complementInConflict, decidedLiteral, instanceFits, isOne, lastIsPropagated, lastLiteral, literalExists, literalInstance, next, nonempty, otherInstances, othersFalse, question}
+use Rattle.calculus.specs.Rules.{backLevel, decidedLiteral, isOne, lastLiteral, literalInstance, next, otherInstances}
 use Rattle.calculus.specs.States.{Backtrack, Conflict, Decide, Factorize, Grow, Propagate, Resolve, Skip, State, Step, Unknown, clauseAt, clauses, conflictOf, stands}
 use Rattle.calculus.specs.Trails.{Trail, background, decided, foreground, isFalse, levelOf, onTrail, propagated, undefined}
 use Rattle.calculus.proofs.Merged.{sameLiteral→eq}
@@ -32,13 +34,26 @@ pub data Match : List Check → List Condition → Type 1 where
   all : Match [] []
   _also_ : {b : Bool} {P : Type 0} {n : ℕ} {cs : List Check} {ds : List Condition} → T b ↔ P → Match cs ds → Match (b or n ∷ cs) (P otherwise n ∷ ds)
 
-first-lacking : {cs : List Check} {ds : List Condition} → Match cs ds → FirstLacking (firstRefusal cs) ds
-first-lacking all = none-lacks refl
+-- Every check holds.
+abbrev pub AllOk : List Check → Type 0
+AllOk [] = Unit {0}
+AllOk (c ∷ cs) = T (c .ok) × AllOk cs
+
+pub pass : (cs : List Check) → AllOk cs → firstRefusal cs ≡ accepted
+pass [] k = refl
+pass (c ∷ cs) k = rw (T→eq (c .ok) (k .0)) (pass cs (k .1))
+
+pub all-say : {cs : List Check} {ds : List Condition} → Match cs ds → AllOk cs ↔ EachHolds ds
+all-say all = (λ u. u, λ u. u)
+all-say (p also m) = p & all-say m
+
+pub first-lacking : {cs : List Check} {ds : List Condition} → Match cs ds → FirstLacking (firstRefusal cs) ds
+first-lacking all = refl
 first-lacking (_also_ {b} {P} {n} {cs} {ds} p m) = go b p (first-lacking m)
   where
     go : (b : Bool) → T b ↔ P → FirstLacking (firstRefusal cs) ds → FirstLacking (cond b (firstRefusal cs) n) (P otherwise n ∷ ds)
-    go true p r = later-lacks (p .0 tt) r
-    go false p r = this-lacks (not-says false p .0 tt) refl
+    go true p r = inr (p .0 tt, r)
+    go false p r = inl (not-says false p .0 tt, refl)
 
 -- ---- each test and what it says
 
@@ -48,8 +63,10 @@ between-says a b x = and-says (leb a x) (leb x b) (leb-says a x) (leb-says x b)
 names-says : {A : Type 0} (of : List A) (n : ℕ) → T (between 1 (length of) n) ↔ Names of n
 names-says of n = says-also (between-says 1 (length of) n) (λ h. record { from-one = h .0; there = h .1 }) (λ h. (h .from-one, h .there))
 
-instance-says : (n : ℕ) (C : Clause) (τ : List ℕ) → T (instanceFits n C τ) ↔ ((length τ ≡ C .variables) × ((b : ℕ) → List·Memᴰ b τ → (1 ≤ b) × (b ≤ n)))
-instance-says n C τ = and-says (eqb (length τ) (C .variables)) (allOf (between 1 n) τ) (eqb-says (length τ) (C .variables)) (all-says (between 1 n) (λ b. (1 ≤ b) × (b ≤ n)) (between-says 1 n) τ)
+instance-says : (n : ℕ) (C : Clause) (τ : List ℕ) → T (instanceFits n C τ) ↔ InstanceOf n C τ
+instance-says n C τ =
+    says-also (and-says (eqb (length τ) (C .variables)) (allOf (between 1 n) τ) (eqb-says (length τ) (C .variables)) (all-says (between 1 n) (λ b. (1 ≤ b) × (b ≤ n)) (between-says 1 n) τ))
+    (λ h. record { for-each-variable = h .0; of-constants = h .1 }) (λ h. (h .for-each-variable, h .of-constants))
 
 none-says : (c : Option Instanced) → T (not (stands c)) ↔ (c ≡ none)
 none-says none = (λ t. refl, λ e. tt)
@@ -166,6 +183,3 @@ matched N s b (Backtrack l) d =
     also all
 matched N s b (Grow n) d = none-says (s .conflict) also leb-says 1 n also leb-says (s .constants + n) mostConstants also all
 matched N s b (Unknown r) d = (λ h. h, λ h. h) also all
-
-pub refused-for-first : (N : Numbers) → RefusedForFirst N
-refused-for-first N s x a j = rw (ap (λ (r : Answer). r .number) (j .is)) (first-lacking (matched N s (j .possible) x (j .decides)))
