@@ -9,7 +9,8 @@ ghost use Rattle.basis.specs.Limits.{mostVariables, mostInput, mostLearned, mos
 ghost use Rattle.calculus.specs.Checks.{between};
 ghost use Rattle.calculus.specs.Clauses.{sameLiteral};
 ghost use Rattle.calculus.specs.Clauses as calculus;
-ghost use Rattle.calculus.specs.Rules.{literalExists, instanceFits, literalInstance, complementInConflict};
+ghost use Rattle.calculus.specs.Asks.{literalExists, instanceFits, complementInConflict};
+ghost use Rattle.calculus.specs.Rules.{literalInstance};
 ghost use Rattle.calculus.specs.Trails.{isDecision};
 ghost use Rattle.clauses.specs.Records.{clauseOf, instancedOf};
 ghost use Rattle.trail.specs.Entries.{entryOf};

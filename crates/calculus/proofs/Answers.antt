@@ -1,7 +1,7 @@
 -- The answer to a step: what computes it is what the rules say, it is unique, and it is "accepted" exactly when the step is allowed.
-use mathlib.Core.Path.{_∙_, _≡_, ap, refl, sym}
-use mathlib.Core.Logic.{_↔_, _⊎_, inl, inr}
-use mathlib.Core.List.{List, List·Memᴰ, List·Memᴰ·head, List·Memᴰ·not-nil, List·Memᴰ·tail, [], _∷_}
+use mathlib.Core.Path.{_∙_, _≡_, refl, sym}
+use mathlib.Core.Logic.{_↔_, inl, inr}
+use mathlib.Core.List.{List, List·Memᴰ·not-nil, [], _∷_}
 use mathlib.Core.Bool.{Bool, _&&_, _||_, cond, false, not, true}
 use Prim.Native.Nat.{_-_, _<_, _≤_, suc, zero, ℕ}
 use native.Mathlib.Decide.{ℕ-discrete}
@@ -26,7 +26,7 @@ use Rattle.calculus.specs.OnTrail.{False}
 use Rattle.calculus.specs.Rules.{Answer, next}
 use Rattle.calculus.specs.States.{Backtrack, Conflict, Decide, Factorize, Grow, Propagate, Resolve, Skip, State, Step, Unknown, clauseAt, clauses}
 use Rattle.calculus.specs.Trails.{Trail, isFalse}
-use Rattle.calculus.proofs.Asks.{AllOk, all-say, first-lacking, matched, pass}
+use Rattle.calculus.proofs.Asks.{AllOk, all-say, first-lacking, matched}
 use Rattle.calculus.proofs.OnTrail.{not-on-out, on-out, other-false-out, other-not-false}
 
 -- ---- conditions in rising order

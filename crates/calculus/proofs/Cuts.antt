@@ -1,7 +1,7 @@
 -- Levels count the decisions up to and including a literal, and a cut is just before decision i + 1.
 use mathlib.Core.Path.{_∙_, _≡_, ap, refl}
 use mathlib.Core.Logic.{_⊎_, inl, inr}
-use mathlib.Core.List.{List, List·Memᴰ, List·Memᴰ·cases-cons, List·Memᴰ·head, List·Memᴰ·not-nil, List·Memᴰ·tail, [], _++_, _∷_}
+use mathlib.Core.List.{List·Memᴰ, List·Memᴰ·cases-cons, List·Memᴰ·head, List·Memᴰ·not-nil, List·Memᴰ·tail, [], _++_, _∷_}
 use mathlib.Core.Bool.{Bool, _||_, false, not, true}
 use Prim.Native.Nat.{_<_, _≤_, zero}
 use native.Mathlib.Omega.{arith}

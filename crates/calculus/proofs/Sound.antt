@@ -20,7 +20,7 @@ use Rattle.calculus.specs.Class.{InClass, Limited}
 use Rattle.calculus.specs.Clauses.{Clause, Instanced, ground, groundAtoms}
 use Rattle.calculus.specs.Conditions.{Allowed, FirstLacking, Judged, conditions}
 use Rattle.calculus.specs.Rules.{Answer, backLevel, next}
-use Rattle.calculus.specs.Runs.{AcceptedRun, Run, Start, plain, replayed, restarted}
+use Rattle.calculus.specs.Runs.{AcceptedRun, Reached, Run, Start, plain, replayed, restarted}
 use Rattle.calculus.specs.Sound.{AdmittedSound, EveryStateReached, Never17, Once, Replays, RestartedSound, RestartedStarts, SoundJudge}
 use Rattle.calculus.specs.States.{Backtrack, Conflict, Decide, Factorize, Grow, Propagate, Resolve, Skip, State, Step, Unknown, clauseAt, clauses, conflictOf}
 use Rattle.calculus.specs.Trails.{Entry, Origin, Trail, appendAtoms, atomOnTrail, atomsOf, background, cut, decided, decisions, foreground, isFalse, propagated}
@@ -236,6 +236,9 @@ module _ (nums : Numbers) where
 
   pub admitted-sound : AdmittedSound nums
   admitted-sound s a = record { start = admitted-starts s a; follow = λ C m. absurd (List·Memᴰ·not-nil (subst (List·Memᴰ C) (none-learned s a) m)) }
+
+  pub reached-few : (s : State) → Reached (plain nums) s → length (s .trail) ≤ mostEntries
+  reached-few s h = now-few nums (clauses (h .first)) s (s .conflict) (inv-run (inv-start nums (h .first) (h .start)) (h .run) .now)
 
   pub restarted-starts : RestartedStarts nums
   restarted-starts s h = record {

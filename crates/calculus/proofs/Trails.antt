@@ -4,7 +4,7 @@ use mathlib.Core.Logic.{_⊎_, inl, inr}
 use mathlib.Core.List.{List, List·Memᴰ, List·Memᴰ·cases-cons, List·Memᴰ·head, List·Memᴰ·not-nil, Memᴰ·append-left, Memᴰ·append-right, Memᴰ·cast, [], _++_, _∷_, reverse, reverse-cons}
 use mathlib.Core.Option.{none}
 use mathlib.Core.Bool.{Bool, _&&_, _||_, cond, false, true}
-use Prim.Native.Nat.{_-_, suc, zero, ℕ}
+use Prim.Native.Nat.{_-_, suc, ℕ}
 use native.Mathlib.Omega.{arith}
 use lib.Dec.{T, leb}
 use lib.ListN.{getD, length}
@@ -16,7 +16,7 @@ use Rattle.basis.specs.declared.Literal.{Literal}
 use Rattle.lists.proofs.Tests.{F→eq, Said, T→eq, and-i, fails, holds, said}
 use Rattle.calculus.specs.Clauses.{Clause, ground, groundAtoms, noLiteral, sameAtom}
 use Rattle.calculus.specs.Asks.{answer, asks, clauseExists, instanceFits, literalExists, othersFalse}
-use Rattle.calculus.specs.Rules.{decidedLiteral, next, propagatedTrail}
+use Rattle.calculus.specs.Rules.{decidedLiteral, propagatedTrail}
 use Rattle.calculus.specs.Runs.{AcceptedRun, plain, replayed, restarted, stepOf, stepsOf}
 use Rattle.calculus.specs.States.{State, Step, clauseAt, clauses, updated}
 use Rattle.calculus.specs.Trails.{Entry, Origin, Trail, appendAtoms, atomOnTrail, atomsOf, background, decided, decisions, foreground, propagated, undefined}

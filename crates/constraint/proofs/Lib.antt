@@ -1,5 +1,6 @@
 -- Why the constraint test is right: unique answers, no overflow, and the square step by step.
 pub mod Unique
+pub mod Decided
 pub mod Sums
 pub mod Stands
 pub mod Start

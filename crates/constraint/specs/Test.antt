@@ -38,6 +38,10 @@ Says constants count atoms Yes = Accepted constants count atoms × Possible whol
 Says constants count atoms No = Accepted constants count atoms × ¬ Possible whole constants (take count atoms)
 Says constants count atoms (Refused number place) = Refusal constants count atoms number place
 
+-- Whether atoms are possible is decided, whatever they are: also those that the test would refuse. Proved in proofs/Decided.antt.
+abbrev pub Decided : Type 0
+Decided = (constants : ℕ) (atoms : List Atom) → Dec (Possible whole constants atoms)
+
 -- Two answers that say what is so are one: proved in proofs/Unique.antt.
 abbrev pub Unique : Type 0
 Unique = (constants count : ℕ) (atoms : List Atom) (r s : Answer) → Says constants count atoms r → Says constants count atoms s → r ≡ s

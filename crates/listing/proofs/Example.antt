@@ -5,7 +5,7 @@ use mathlib.Core.List.{List, [], _∷_}
 use native.Mathlib.Omega.{arith}
 use lib.IntN.{ℤ, pos}
 use Rattle.calculus.specs.Merging.{closeUp, merge, reason, resolvent}
-use Rattle.calculus.specs.Rules.{answer}
+use Rattle.calculus.specs.Asks.{answer}
 use Rattle.calculus.specs.States.{State, Step, Propagate, Conflict, Skip, Resolve}
 use Rattle.calculus.proofs.Certificates.{judged-yes}
 use Rattle.runfile.specs.Cases.{exampleFile}

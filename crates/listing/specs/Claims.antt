@@ -9,7 +9,8 @@ use Rattle.basis.specs.Numbers.{Numbers, whole}
 use Rattle.basis.specs.Refusals.{accepted, noRoom}
 use Rattle.calculus.specs.Clauses.{Clause}
 use Rattle.calculus.specs.Demands.{SoundJudge}
-use Rattle.calculus.specs.Rules.{Answer, Judged, Reply}
+use Rattle.calculus.specs.Conditions.{Judged}
+use Rattle.calculus.specs.Rules.{Answer, Reply}
 use Rattle.calculus.specs.Runs.{AnswersAll, AnswersOnce, Judge, Reached, plain}
 use Rattle.calculus.specs.States.{State, Step}
 use Rattle.calculus.specs.Truth.{Reading, True}

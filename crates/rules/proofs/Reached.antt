@@ -1,5 +1,5 @@
 -- What every state reached has, in the code's terms: everything fits its record, and the constraint test takes what it is asked.
-use mathlib.Core.Path.{_≡_, ap, refl, subst, sym}
+use mathlib.Core.Path.{_≡_, refl, subst, sym}
 use mathlib.Core.Logic.{_⊎_, inl, inr}
 use mathlib.Core.List.{List, List·Memᴰ, List·Memᴰ·append-cases, List·Memᴰ·eq-of-singleton, List·Memᴰ·head, List·Memᴰ·not-nil, List·Memᴰ·tail, Memᴰ·of-map, [], _∷_}
 use mathlib.Core.Option.{Option, none, some}
@@ -8,28 +8,25 @@ use Prim.Native.Nat.{_+_, _<_, _≤_, suc, zero, ℕ}
 use native.Mathlib.Decide.{ℕ-discrete}
 use native.Mathlib.Omega.{arith}
 use lib.Dec.{T, leb, leb→le}
-use lib.ListN.{getD, length, length-append}
+use lib.ListN.{getD, length}
 use Rattle.basis.specs.Atoms.{Proper}
 use Rattle.basis.specs.Limits.{mostConstants, mostEntries, mostInput, mostLearned, mostVariables}
 use Rattle.basis.specs.Numbers.{whole}
-use Rattle.basis.specs.Refusals.{accepted}
 use Rattle.basis.specs.declared.Atom.{Atom}
 use Rattle.lists.proofs.Members.{getD-mem}
 use Rattle.lists.proofs.Tests.{and-l, and-r}
-use Rattle.calculus.proofs.Answers.{AllOk, acceptance, refused-hands-back}
-use Rattle.calculus.proofs.Demands.{inv-run, inv-start, run-input}
+use Rattle.calculus.proofs.Sound.{inv-run, inv-start, reached-few, restarted-starts}
 use Rattle.calculus.proofs.Instances.{Sized}
 use Rattle.calculus.proofs.Invariant.{Inv, Now, Stands}
 use Rattle.calculus.proofs.Levels.{clause-held, instance-sized}
 use Rattle.calculus.proofs.Trails.{Built, StepOk, Tail, empty, group, grown, here, literalBy, there}
 use Rattle.calculus.specs.Class.{InClass, Limited}
 use Rattle.calculus.specs.Clauses.{groundAtoms, renameAtom, under}
-use Rattle.calculus.specs.Rules.{Answer, Judged, asks, clauseExists, instanceFits, literalExists, next}
-use Rattle.calculus.specs.States.{Backtrack, Conflict, Decide, Factorize, Grow, Propagate, Resolve, Skip, State, Step, Unknown, clauseAt, clauses, conflictOf}
+use Rattle.calculus.specs.Asks.{clauseExists, instanceFits, literalExists}
+use Rattle.calculus.specs.States.{State, clauseAt, clauses}
 use Rattle.calculus.specs.Trails.{Entry, Origin, Trail, appendAtoms, atomOnTrail, atomsOf, background, decided, decisions, foreground, isDecision, propagated}
 use Rattle.trail.specs.Entries.{AllShort}
-use Rattle.calculus.specs.Runs as runs
-use Rattle.calculus.specs.Runs.{Reached, plain}
+use Rattle.calculus.specs.Runs.{Reached, Start, plain, restarted}
 use Rattle.calculus.specs.Clauses as calculus
 
 -- ---- the trail
@@ -75,10 +72,6 @@ pub fine-tail : (cs : List calculus.Clause) (n : ℕ) {t u : Trail} → Tail t u
 fine-tail cs n (here e) f = subst (AllFine cs n) (sym e) f
 fine-tail cs n (there h) f = fine-tail cs n h (f .1)
 
-shorter-tail : {t u : Trail} → Tail t u → length t ≤ length u
-shorter-tail {t} (here e) = omega (arith, ap length e)
-shorter-tail (there h) = omega (arith, shorter-tail h)
-
 module _ (arities : List ℕ) (cs : List calculus.Clause) (n : ℕ) (class : (C : calculus.Clause) → List·Memᴰ C cs → InClass arities C) where
   pub clause-proper : (c : ℕ) (τ : List ℕ) → T (clauseExists cs c) → T (instanceFits n (clauseAt cs c) τ) → (a : Atom) → List·Memᴰ a (groundAtoms τ (clauseAt cs c .atoms)) → Proper n a
   clause-proper c τ h k = ground-proper n (clauseAt cs c .variables) τ (instance-sized n (clauseAt cs c) τ k) (clauseAt cs c .atoms) (class (clauseAt cs c) (clause-held cs c h) .atoms-proper)
@@ -93,14 +86,6 @@ module _ (arities : List ℕ) (cs : List calculus.Clause) (n : ℕ) (class : (C 
           (clause-proper c τ (k .0) (and-r (literalExists (clauseAt cs c) l) (instanceFits n (clauseAt cs c) τ) (k .1 .named)))
           ((leb→le (length τ) mostVariables (k .1 .short), k .0, k .1 .named), f)
       go (decided c l b τ) k f = (leb→le (length τ) mostVariables (k .1 .short), f)
-
-built-few : {cs : List calculus.Clause} {n : ℕ} {t : Trail} → Built whole cs n t → length t ≤ mostEntries
-built-few (empty e) = omega (arith, ap length e)
-built-few {cs} {n} (group {t = u} m b k e) = omega (arith, ap length e, go m k)
-  where
-    go : (m : Origin) → StepOk whole cs n u m → length (grown cs m u) ≤ mostEntries
-    go (propagated c l τ) k = leb→le (length (grown cs (propagated c l τ) u)) mostEntries (k .1 .room)
-    go (decided c l b τ) k = leb→le (suc (length u)) mostEntries (k .1 .room)
 
 pub decisions-few : (t : Trail) → decisions t ≤ length t
 decisions-few [] = omega arith
@@ -125,39 +110,6 @@ fine-short cs n (foreground l (propagated c i τ) ∷ t) f = (f .0 .0, fine-shor
 fine-short cs n (foreground l (decided c i b τ) ∷ t) f = (f .0, fine-short cs n t (f .1))
 fine-short cs n (background a ∷ t) f = (tt, fine-short cs n t (f .1))
 
--- ---- counts
-
-record Counts (s : State) : Type 0 where
-  few-constants : s .constants ≤ mostConstants
-  few-learned : length (s .learned) ≤ mostLearned
-
-counts-next : (b : Bool) (s : State) (x : Step) → AllOk (asks b s x) → Counts s → Counts (next s x)
-counts-next b s (Propagate c l τ) k h = record { few-constants = h .few-constants; few-learned = h .few-learned }
-counts-next b s (Decide c l g τ) k h = record { few-constants = h .few-constants; few-learned = h .few-learned }
-counts-next b s (Conflict c τ) k h = record { few-constants = h .few-constants; few-learned = h .few-learned }
-counts-next b s (Resolve l) k h = record { few-constants = h .few-constants; few-learned = h .few-learned }
-counts-next b s (Factorize i j) k h = record { few-constants = h .few-constants; few-learned = h .few-learned }
-counts-next b s Skip k h = record { few-constants = h .few-constants; few-learned = h .few-learned }
-counts-next b s (Backtrack l) (k1, (k2, (k3, (k4, (k5, (k, u)))))) h = record {
-  few-constants = h .few-constants;
-  few-learned =
-      let C = conflictOf (s .conflict) .clause in
-      let r = leb→le (suc (length (s .learned))) mostLearned (and-r (leb (length (next s (Backtrack l) .trail)) mostEntries) (leb (suc (length (s .learned))) mostLearned) k) in
-      omega (arith, length-append (s .learned) (C ∷ []));
-}
-counts-next b s (Grow n) (k1, (k2, (k, u))) h = record { few-constants = leb→le (s .constants + n) mostConstants k; few-learned = h .few-learned }
-counts-next b s (Unknown r) k h = h
-
-counts-judged : (s : State) (x : Step) (a : Answer) → Judged whole s x a → Counts s → Counts (a .state)
-counts-judged s x a j h = elim (ℕ-discrete (a .number) accepted) [
-  | yes e ↦ let A = acceptance whole s x a j e in subst Counts (sym (A .is)) (counts-next (A .possible) s x (A .checks) h)
-  | no e ↦ subst Counts (sym (refused-hands-back whole s x a j e)) h
-]
-
-counts-run : {s s′ : State} {xs : List Step} → runs.Run (plain whole) s xs s′ → Counts s → Counts s′
-counts-run (runs.over e) h = subst Counts e h
-counts-run {s = s} (runs.then {x = x} a j r) h = counts-run r (counts-judged s x a j h)
-
 -- ---- the state
 
 -- A conflict: of the class, within the limits, with a constant for each of its variables
@@ -179,35 +131,33 @@ pub record FineState (s : State) : Type 0 where
 
 pub reached-fine : (s : State) → Reached (plain whole) s → FineState s
 reached-fine s h = record {
-  few-constants = counts .few-constants;
-  few-input = omega (arith, ap (λ (cs : List calculus.Clause). length cs) (run-input (h .run) .0), h .admitted .few-clauses);
-  few-learned = counts .few-learned;
-  few-entries = trail .0;
+  few-constants = again .admitted .few-constants;
+  few-input = again .admitted .few-clauses;
+  few-learned = again .few-learned;
+  few-entries = reached-few whole s h;
   level = v .level;
   class = λ C k. v .held C k .class;
   limited = λ C k. v .held C k .limited;
-  entries = trail .1;
-  conflict = λ N e. stands N (subst (Now whole s) e (v .now));
+  entries = now (s .conflict) (v .now);
+  conflict = λ N e. stands N (subst (Now whole from s) e (v .now));
 }
   where
-    v : Inv whole s
-    v = inv-run (inv-start whole (h .first) (h .admitted)) (h .run)
+    from : List calculus.Clause
+    from = clauses (h .first)
 
-    counts : Counts s
-    counts = counts-run (h .run) (record { few-constants = h .admitted .few-constants; few-learned = omega (arith, ap (λ (q : State). length (q .learned)) (h .admitted .new)) })
+    v : Inv whole from s
+    v = inv-run (inv-start whole (h .first) (h .start)) (h .run)
+
+    -- The limits are those of the state started again.
+    again : Start (restarted s)
+    again = restarted-starts whole s h
 
     fine : {t : Trail} → Built whole (clauses s) (s .constants) t → AllFine (clauses s) (s .constants) t
     fine b = built-fine (s .arities) (clauses s) (s .constants) (λ C k. v .held C k .class) b
 
-    Trailed : Type 0
-    Trailed = (length (s .trail) ≤ mostEntries) × AllFine (clauses s) (s .constants) (s .trail)
+    now : (c : Option calculus.Instanced) → Now whole from s c → AllFine (clauses s) (s .constants) (s .trail)
+    now none b = fine (b .lower)
+    now (some N) S = fine-tail (clauses s) (s .constants) (S .tail) (fine (S .built))
 
-    now : (c : Option calculus.Instanced) → Now whole s c → Trailed
-    now none b = (built-few (b .lower), fine (b .lower))
-    now (some N) S = (omega (arith, shorter-tail (S .tail), built-few (S .built)), fine-tail (clauses s) (s .constants) (S .tail) (fine (S .built)))
-
-    trail : Trailed
-    trail = now (s .conflict) (v .now)
-
-    stands : (N : calculus.Instanced) → Stands whole (s .arities) (clauses s) (s .input) (s .constants) (s .trail) N → FineConflict (s .arities) (s .constants) N
+    stands : (N : calculus.Instanced) → Stands whole (s .arities) (clauses s) from (s .constants) (s .trail) N → FineConflict (s .arities) (s .constants) N
     stands N S = record { class = S .held .class; limited = S .held .limited; sized = S .sized }

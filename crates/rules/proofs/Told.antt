@@ -1,5 +1,5 @@
 -- How an answer is told: refused, with the run handed back, or accepted, with the next one. It is unique.
-use mathlib.Core.Path.{_∙_, _≡_, ap, refl, subst, sym}
+use mathlib.Core.Path.{_∙_, _≡_, ap, subst, sym}
 use mathlib.Core.Logic.{_↔_}
 use mathlib.Core.List.{[]}
 use mathlib.Core.Bool.{Bool, false, not, true}
@@ -12,12 +12,13 @@ use Rattle.lists.proofs.Tests.{F→eq}
 use Rattle.rules.specs.Answers.{AnswerUnique, RunOf, Told}
 use Rattle.rules.specs.Records.{packedAnswer, packedRun, refusedAt, refusedBy}
 use Rattle.rules.specs.declared.Run.{Run}
-use Rattle.calculus.proofs.Answers.{AllOk, answer-unique, pass}
-use Rattle.calculus.proofs.Trails.{possible-none}
+use Rattle.calculus.proofs.Answers.{answer-unique, judged-by, possible-none}
+use Rattle.calculus.proofs.Asks.{AllOk, pass}
 use Rattle.calculus.specs.Checks.{firstRefusal}
-use Rattle.calculus.specs.Rules.{answer, asks, learnsAt, next, notFalsePlace, question}
+use Rattle.calculus.specs.Asks.{answer, asks, notFalsePlace, question}
+use Rattle.calculus.specs.Rules.{learnsAt, next}
 use Rattle.calculus.specs.States.{State, Step}
-use Rattle.bounds.proofs.Decided.{possible-decided}
+use Rattle.constraint.proofs.Decided.{possible-decided}
 
 -- Whether the atoms that a step asks for are possible is decided.
 pub decided : (s : State) (x : Step) → (b : Bool) × (T b ↔ Possible whole (s .constants) (question s x))
@@ -35,7 +36,7 @@ module _ {r : Run} {s : State} (R : RunOf r s) (x : Step) where
   -- Refused by n, the test's answer being b
   pub refused-by : (b : Bool) → T b ↔ Possible whole (s .constants) (question s x) → (n : ℕ) → T (not (eqb n accepted)) → T (not (eqb n notFalse)) → firstRefusal (asks b s x) ≡ n
       → Told s x (refusedBy r n)
-  refused-by b d n h k e = (answer b s x, record { possible = b; decides = d; is = refl }, rw (e, F→eq (eqb n accepted) h, F→eq (eqb n notFalse) k) (ap (λ (q : Run). refusedBy q n) (R .is)))
+  refused-by b d n h k e = (answer b s x, judged-by whole b s x d, rw (e, F→eq (eqb n accepted) h, F→eq (eqb n notFalse) k) (ap (λ (q : Run). refusedBy q n) (R .is)))
 
   -- Refused before the test, whose answer would change nothing
   pub refused : (n : ℕ) → T (not (eqb n accepted)) → T (not (eqb n notFalse)) → ((b : Bool) → firstRefusal (asks b s x) ≡ n) → Told s x (refusedBy r n)
@@ -43,12 +44,12 @@ module _ {r : Run} {s : State} (R : RunOf r s) (x : Step) where
 
   -- Refused by 12, with the place
   pub refused-at : (p : ℕ) → p ≡ notFalsePlace s x → ((b : Bool) → firstRefusal (asks b s x) ≡ notFalse) → Told s x (refusedAt r p)
-  refused-at p q e = let d = decided s x in (answer (d .0) s x, record { possible = d .0; decides = d .1; is = refl }, rw (e (d .0)) (λ i. refusedAt (R .is i) (q i)))
+  refused-at p q e = let d = decided s x in (answer (d .0) s x, judged-by whole (d .0) s x (d .1), rw (e (d .0)) (λ i. refusedAt (R .is i) (q i)))
 
   -- Accepted, with the next run
   pub accepted-as : (b : Bool) → T b ↔ Possible whole (s .constants) (question s x) → AllOk (asks b s x) → (q : Run) → q ≡ packedRun (next s x)
       → Told s x (record { run = q; number = accepted; place = 0; learned = learnsAt s x })
-  accepted-as b d checks q e = (answer b s x, record { possible = b; decides = d; is = refl }, rw (pass (asks b s x) checks) (ap (λ (q : Run). record { run = q; number = accepted; place = 0; learned = learnsAt s x }) e))
+  accepted-as b d checks q e = (answer b s x, judged-by whole b s x d, rw (pass (asks b s x) checks) (ap (λ (q : Run). record { run = q; number = accepted; place = 0; learned = learnsAt s x }) e))
 
 pub answered-unique : AnswerUnique
 answered-unique r k x a b (s, R, l) f g =

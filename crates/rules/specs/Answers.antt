@@ -1,7 +1,8 @@
 -- What a rule takes for granted of the run and of what it looks at, and what it answers.
 use mathlib.Core.Path.{_≡_}
 use Rattle.basis.specs.Numbers.{whole}
-use Rattle.calculus.specs.Rules.{Answer, Judged}
+use Rattle.calculus.specs.Conditions.{Judged}
+use Rattle.calculus.specs.Rules.{Answer}
 use Rattle.calculus.specs.Runs.{Reached, plain}
 use Rattle.calculus.specs.States.{State, Step}
 use Rattle.asking.specs.Looking.{lookedAt}

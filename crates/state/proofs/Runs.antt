@@ -8,7 +8,8 @@ use native.Mathlib.Omega.{arith}
 use lib.ListN.{length}
 use Rattle.basis.specs.Numbers.{whole}
 use Rattle.calculus.specs.Clauses as calculus
-use Rattle.calculus.specs.Rules.{Answer, Judged}
+use Rattle.calculus.specs.Conditions.{Judged}
+use Rattle.calculus.specs.Rules.{Answer}
 use Rattle.calculus.specs.Runs as runs
 use Rattle.calculus.specs.States as states
 use Rattle.calculus.specs.Admission.{fresh}

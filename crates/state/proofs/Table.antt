@@ -16,7 +16,8 @@ use Rattle.basis.specs.Refusals.{accepted}
 use Rattle.lists.specs.Arrays.{exactly}
 use Rattle.lists.proofs.Arrays.{exactly-length, getD-any, getD-exactly, set-exactly}
 use Rattle.calculus.specs.Clauses as calculus
-use Rattle.calculus.specs.Rules.{Answer, Judged, learnsAt, next}
+use Rattle.calculus.specs.Conditions.{Judged}
+use Rattle.calculus.specs.Rules.{Answer, learnsAt, next}
 use Rattle.calculus.specs.Runs as runs
 use Rattle.calculus.specs.Runs.{plain}
 use Rattle.calculus.specs.States as states

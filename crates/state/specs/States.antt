@@ -12,7 +12,8 @@ use Rattle.basis.specs.Refusals.{accepted}
 use Rattle.lists.specs.Arrays.{exactly}
 use Rattle.calculus.specs.Admission.{Admitted, admissionRefusal, fresh}
 use Rattle.calculus.specs.Clauses as calculus
-use Rattle.calculus.specs.Rules.{Answer, Judged}
+use Rattle.calculus.specs.Conditions.{Judged}
+use Rattle.calculus.specs.Rules.{Answer}
 use Rattle.calculus.specs.Runs as runs
 use Rattle.calculus.specs.Runs.{Reached, plain}
 use Rattle.calculus.specs.States as states
