@@ -2,3 +2,4 @@
 pub mod Runs
 pub mod Table
 pub mod Opening
+pub mod Packing
