@@ -3,3 +3,4 @@ pub mod Runs
 pub mod Table
 pub mod Opening
 pub mod Packing
+pub mod Replaying
