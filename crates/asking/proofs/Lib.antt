@@ -1,2 +1,3 @@
 -- Why what is asked is what the calculus asks.
 pub mod Literals
+pub mod Steps

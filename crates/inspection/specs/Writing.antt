@@ -1,15 +1,11 @@
 -- The most bytes that each line of a state has, from the paper's limits, and what the writer of a state promises.
 use mathlib.Core.Path.{_≡_}
-use mathlib.Core.Bool.{Bool, true, false}
 use mathlib.Core.List.{List}
-use mathlib.Core.Option.{Option, none, some}
 use Prim.Native.Nat.{ℕ, _+_, _*_}
 use Rattle.basis.specs.Limits.{mostVariables, mostEntries, mostClauses}
-use Rattle.calculus.specs.Clauses as calculus
 use Rattle.calculus.specs.States.{State, clauses}
-use Rattle.clauses.specs.Records.{clauseOf, instancedOf}
+use Rattle.clauses.specs.Records.{clauseOf}
 use Rattle.clauses.specs.declared.Clause.{Clause}
-use Rattle.clauses.specs.declared.Instanced.{Instanced}
 use Rattle.trail.specs.Entries.{entryOf}
 use Rattle.trail.specs.declared.Entry.{Entry}
 use Rattle.rules.specs.Answers.{RunOf}
@@ -65,11 +61,6 @@ entryLineOf n e = entryLine n (entryOf e)
 -- The line of clause number n, of its record
 abbrev pub clauseLineOf : ℕ → Clause → List ℕ
 clauseLineOf n c = clauseLine n (clauseOf c)
-
--- The conflict that a record says, where one stands
-abbrev pub conflictSaid : Bool → Instanced → Option calculus.Instanced
-conflictSaid false n = none
-conflictSaid true n = some (instancedOf n)
 
 -- The run and the table beside it are the records of the state s, and s was reached.
 pub record Recorded (run : Run) (table : List Clause) (s : State) : Type 0 where

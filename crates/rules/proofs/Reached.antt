@@ -10,7 +10,7 @@ use native.Mathlib.Omega.{arith}
 use lib.Dec.{T, leb, leb→le}
 use lib.ListN.{getD, length}
 use Rattle.basis.specs.Atoms.{Proper}
-use Rattle.basis.specs.Limits.{mostConstants, mostEntries, mostInput, mostLearned, mostVariables}
+use Rattle.basis.specs.Limits.{mostConstants, mostEntries, mostInput, mostLearned, mostPredicates, mostVariables}
 use Rattle.basis.specs.Numbers.{whole}
 use Rattle.basis.specs.declared.Atom.{Atom}
 use Rattle.lists.proofs.Members.{getD-mem}
@@ -161,3 +161,7 @@ reached-fine s h = record {
 
     stands : (N : calculus.Instanced) → Stands whole (s .arities) (clauses s) from (s .constants) (s .trail) N → FineConflict (s .arities) (s .constants) N
     stands N S = record { class = S .held .class; limited = S .held .limited; sized = S .sized }
+
+-- No step changes the predicates.
+pub few-predicates : (s : State) → Reached (plain whole) s → length (s .arities) ≤ mostPredicates
+few-predicates s h = omega (arith, ap (λ (l : List ℕ). length l) (run-input (h .run) .1), h .admitted .few-predicates)

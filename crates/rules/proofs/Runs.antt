@@ -11,7 +11,7 @@ use Rattle.basis.specs.Refusals.{accepted}
 use Rattle.basis.specs.Limits.{mostAtoms, mostConstants, mostEntries, mostInput, mostLearned, mostLiterals, mostVariables}
 use Rattle.lists.proofs.Tests.{T→eq, and-i}
 use Rattle.rules.specs.Answers.{Kept, RunOf}
-use Rattle.rules.specs.Records.{packedRun, takenUp}
+use Rattle.rules.specs.Records.{conflictSaid, packedRun, takenUp}
 use Rattle.rules.specs.declared.Run.{Run}
 use Rattle.rules.specs.declared.Stepped.{Stepped}
 use Rattle.calculus.proofs.Levels.{clause-held}
@@ -38,6 +38,10 @@ some-conflict (some N) e = refl
 pub no-conflict : (c : Option calculus.Instanced) → stands c ≡ false → c ≡ none
 no-conflict none e = refl
 no-conflict (some N) e = absurd (let z : _≡_ {A = ℕ} 0 1 = cc in omega arith)
+
+conflict-said : (b : Bool) (n : Instanced) (c : Option calculus.Instanced) → b ≡ stands c → (b ≡ true → instancedOf n ≡ conflictOf c) → conflictSaid b n ≡ c
+conflict-said true n c e h = ap (λ N. some N) (h refl) ∙ sym (some-conflict c (sym e))
+conflict-said false n c e h = sym (no-conflict c (sym e))
 
 pub within : (C : calculus.Clause) → Limited C → withinLimits C ≡ true
 within C h = T→eq (withinLimits C) (and-i (leb (C .variables) mostVariables) (leb (length (C .atoms)) mostAtoms && leb (length (C .literals)) mostLiterals) (le→leb (C .variables) mostVariables (h .few-variables))
@@ -144,6 +148,9 @@ module _ {r : Run} {s : State} (R : RunOf r s) where
 module _ {r : Run} {s : State} (R : RunOf r s) where
   pub stands-shown : {a : Bool} → r .stands ≡ a → stands (s .conflict) ≡ a
   stands-shown e = sym (stands-is R) ∙ e
+
+  pub conflict-shown : conflictSaid (r .stands) (r .conflict) ≡ s .conflict
+  conflict-shown = conflict-said (r .stands) (r .conflict) (s .conflict) (stands-is R) (conflict-says R)
 
   -- The last entry, which stands in slot i
   pub last-shown : (i : ℕ) → i ≡ r .length - 1 → 1 ≤ r .length → s .trail ≡ entryOf (getD (r .trail) i pastEnd) ∷ trailOf (r .trail) i

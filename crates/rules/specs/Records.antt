@@ -1,9 +1,11 @@
 -- Run records and answers as the calculus's states and answers.
 use mathlib.Core.List.{List}
-use mathlib.Core.Bool.{true, cond}
+use mathlib.Core.Option.{Option, none, some}
+use mathlib.Core.Bool.{Bool, true, false, cond}
 use Prim.Native.Nat.{ℕ, zero, suc, _+_, _-_}
 use lib.Dec.{eqb}
 use lib.ListN.{length, getD, set}
+use Rattle.calculus.specs.Clauses as clauses
 use Rattle.calculus.specs.States as calculus
 use Rattle.calculus.specs.States.{State, conflictOf}
 use Rattle.basis.specs.Refusals.{accepted, notFalse}
@@ -11,7 +13,7 @@ use Rattle.basis.specs.Atoms.{noAtom}
 use Rattle.basis.specs.declared.Atom.{Atom}
 use Rattle.calculus.specs.Rules.{Answer, learnsAt}
 use Rattle.calculus.specs.Trails.{background}
-use Rattle.clauses.specs.Records.{packedInstanced}
+use Rattle.clauses.specs.Records.{instancedOf, packedInstanced}
 use Rattle.clauses.specs.declared.Instanced.{Instanced}
 use Rattle.trail.specs.Entries.{blankEntry, packedEntry, packedTrail}
 use Rattle.trail.specs.declared.Entry.{Entry}
@@ -31,6 +33,11 @@ packedRun s = record {
   trail = packedTrail (s .trail);
   conflict = packedInstanced (conflictOf (s .conflict));
 }
+
+-- The conflict that a record says, where one stands
+abbrev pub conflictSaid : Bool → Instanced → Option clauses.Instanced
+conflictSaid false n = none
+conflictSaid true n = some (instancedOf n)
 
 -- The record of an answer to the step x at the state s; an accepted Backtrack learned the conflict that stood.
 abbrev pub packedAnswer : State → calculus.Step → Answer → Stepped

@@ -2,3 +2,5 @@
 pub mod Runs
 pub mod Table
 pub mod Opening
+pub mod Packing
+pub mod Replaying

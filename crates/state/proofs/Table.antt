@@ -72,7 +72,7 @@ by-rule P x h1 h2 h3 h4 h5 h6 h7 h8 h =
 -- ---- what a step looks at
 
 module _ {run : Run} {s : states.State} {table : List Clause} (R : RunOf run s) (is : table ≡ packedTable (clauses s)) where
-  few : length (clauses s) ≤ mostClauses
+  pub few : length (clauses s) ≤ mostClauses
   few = omega (arith, length-append (s .input) (s .learned), fine R .few-input, fine R .few-learned)
 
   -- What stands in a clause's slot

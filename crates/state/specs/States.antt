@@ -47,6 +47,10 @@ packedState s = record {
 abbrev pub packedAnswer : Answer → Answered
 packedAnswer a = record { state = packedState (a .state); number = a .number; place = a .place }
 
+-- A record is that of one state reached at most. Proved in proofs/Packing.antt.
+abbrev pub PackingInjective : Type 0
+PackingInjective = (s s′ : states.State) → Reached (plain whole) s → Reached (plain whole) s′ → packedState s ≡ packedState s′ → s ≡ s′
+
 -- Taken for granted of a state record: it is that of a state reached.
 pub record StateOf (r : State) (s : states.State) : Type 0 where
   pub reached : Reached (plain whole) s

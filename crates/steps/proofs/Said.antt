@@ -1,17 +1,8 @@
 -- The record of a step says that step.
-use mathlib.Core.Path.{_∙_, _≡_, ap, refl}
-use mathlib.Core.List.{List}
-use Prim.Native.Nat.{_≤_, ℕ}
-use native.Mathlib.Omega.{arith}
-use lib.ListN.{length}
-use Rattle.basis.specs.Limits.{mostVariables}
-use Rattle.lists.proofs.Arrays.{exactly-length, exactly-take, take-exactly}
-use Rattle.lists.specs.Arrays.{exactly}
+use mathlib.Core.Path.{ap, refl}
+use Rattle.asking.proofs.Steps.{instance-said}
 use Rattle.steps.specs.Records.{StepSaid}
 use Rattle.calculus.specs.States.{Backtrack, Conflict, Decide, Factorize, Grow, Propagate, Resolve, Skip, Unknown}
-
-instance-said : (τ : List ℕ) → length τ ≤ mostVariables → exactly (length τ) 0 (exactly mostVariables 0 τ) ≡ τ
-instance-said τ h = exactly-take 0 (length τ) (exactly mostVariables 0 τ) (omega (arith, exactly-length 0 mostVariables τ)) ∙ take-exactly 0 mostVariables τ h
 
 pub step-said : StepSaid
 step-said (Propagate c l τ) h = ap (Propagate c l) (instance-said τ h)

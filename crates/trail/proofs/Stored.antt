@@ -48,6 +48,11 @@ packed-length t = exactly-length blankEntry mostEntries (map packedEntry (revers
 row-length : (t : Trail) → length (map packedEntry (reverse t)) ≡ length t
 row-length t = simp (length-map, length-reverse)
 
+-- The array's first entries, as many as the trail has, are the trail's, first to last.
+pub row-held : (t : Trail) → length t ≤ mostEntries → take (length t) (packedTrail t) ≡ map packedEntry (reverse t)
+unfolding packedTrail
+row-held t h = ap (λ n. take n (packedTrail t)) (sym (row-length t)) ∙ take-exactly blankEntry mostEntries (map packedEntry (reverse t)) (omega (arith, row-length t))
+
 row-more : (x : calculus.Entry) (t : Trail) → map packedEntry (reverse (x ∷ t)) ≡ map packedEntry (reverse t) ++ (packedEntry x ∷ [])
 row-more x t = ap (map packedEntry) (reverseAux-eq t (x ∷ [])) ∙ map-append packedEntry (reverse t) (x ∷ [])
 

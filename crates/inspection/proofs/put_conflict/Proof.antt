@@ -4,7 +4,7 @@ use mathlib.Core.Bool.{Bool}
 use borrow.Author.Needs.{needs}
 use Rattle.text.proofs.Text.{and-then, as-text}
 use Rattle.inspection.specs.StateText.{conflictText}
-use Rattle.inspection.specs.Writing.{conflictSaid}
+use Rattle.rules.specs.Records.{conflictSaid}
 use Rattle.inspection.proofs.put_conflict.Statement.{statement}
 use Rattle.inspection.proofs.put_conflict.Tie as tie
 

@@ -1,0 +1,57 @@
+-- Replay of the code: where it starts and the steps that it gives, read off the record of the final state.
+use mathlib.Core.Path.{_≡_}
+use mathlib.Core.List.{List, [], _∷_, flatMap, map}
+use mathlib.Core.Bool.{cond, false}
+use lib.ListN.{take}
+use Rattle.basis.specs.Numbers.{whole}
+use Rattle.calculus.specs.Clauses.{noInstanced}
+use Rattle.calculus.specs.Runs.{Reached, plain, replayed, restarted}
+use Rattle.calculus.specs.States as states
+use Rattle.clauses.specs.Records.{packedInstanced}
+use Rattle.trail.specs.Entries.{packedTrail}
+use Rattle.trail.specs.declared.Entry.{Entry}
+use Rattle.trail.specs.declared.Kind.{Kind}
+use Rattle.trail.specs.declared.Kind.the-variants.{Background, Propagated, Decided}
+use Rattle.asking.specs.Steps.{stepOf}
+use Rattle.asking.specs.declared.Step.{Step}
+use Rattle.state.specs.States.{packedState}
+use Rattle.state.specs.declared.State.{State}
+
+-- "Start again from an empty trail at level 0, with the input clauses, constants and learned clauses held at the end."
+abbrev pub again : State → State
+again r = record {
+  run = record {
+    constants = r .run .constants;
+    input = r .run .input;
+    learned = r .run .learned;
+    level = 0;
+    length = 0;
+    stands = false;
+    trail = packedTrail [];
+    conflict = packedInstanced noInstanced;
+  };
+  predicates = r .predicates;
+  arities = r .arities;
+  table = r .table;
+}
+
+-- The one Propagate (rule 1) or Decide (rule 2) behind a foreground entry, which "keeps its step: Propagate's clause, literal and instance (after
+-- Backtrack, those of the learned clause), or Decide's with the sign"; what the rule has no use for is 0. Behind a background entry there is none.
+abbrev pub behindAs : Kind → Entry → List Step
+behindAs Background e = []
+behindAs Propagated e = record { rule = 1; clause = e .clause; literal = e .number; other = 0; sign = 0; amount = 0; count = e .count; instance = e .instance } ∷ []
+behindAs Decided e = record { rule = 2; clause = e .clause; literal = e .number; other = 0; sign = cond (e .sign) 1 0; amount = 0; count = e .count; instance = e .instance } ∷ []
+
+abbrev pub behindEntry : Entry → List Step
+behindEntry e = behindAs (e .kind) e
+
+-- "Give, left to right, the one Propagate or Decide behind each foreground entry of the final trail."
+abbrev pub behind : State → List Step
+behind r = flatMap behindEntry (take (r .run .length) (r .run .trail))
+
+-- Of the records of states these are what the calculus gives again. Proved in proofs/Replaying.antt.
+abbrev pub AgainRestarts : Type 0
+AgainRestarts = (s : states.State) → again (packedState s) ≡ packedState (restarted s)
+
+abbrev pub BehindReplays : Type 0
+BehindReplays = (s : states.State) → Reached (plain whole) s → map stepOf (behind (packedState s)) ≡ replayed (s .trail)
