@@ -164,4 +164,4 @@ reached-fine s h = record {
 
 -- No step changes the predicates.
 pub few-predicates : (s : State) → Reached (plain whole) s → length (s .arities) ≤ mostPredicates
-few-predicates s h = omega (arith, ap (λ (l : List ℕ). length l) (run-input (h .run) .1), h .admitted .few-predicates)
+few-predicates s h = restarted-starts whole s h .admitted .few-predicates

@@ -1,22 +1,31 @@
--- Replay read off the record of a state is the calculus's of that state.
-use mathlib.Core.Path.{_∙_, _≡_, ap, refl}
+-- Replay read off the record of a state is the calculus's of that state, and a run of the code.
+use mathlib.Core.Path.{_∙_, _≡_, ap, refl, subst, sym}
 use mathlib.Core.List.{List, [], _∷_, flatMap, map, reverseAux}
 use mathlib.Core.Bool.{cond}
 use Prim.Native.Nat.{_≤_, ℕ}
+use native.Mathlib.Omega.{arith}
 use lib.ListN.{length}
 use Rattle.basis.specs.Limits.{mostEntries}
-use Rattle.calculus.specs.Runs.{replayed, stepsOf}
+use Rattle.basis.specs.Numbers.{whole}
+use Rattle.calculus.specs.Conditions.{Judged}
+use Rattle.calculus.specs.Runs.{AcceptedRun, Reached, plain, replayed, restarted, stepsOf}
+use Rattle.calculus.proofs.Runs.{start-reached, steps-keep-reached}
+use Rattle.calculus.proofs.Sound.{replays, restarted-starts}
 use Rattle.calculus.specs.States as states
 use Rattle.calculus.specs.States.{Decide, Propagate, clauses}
 use Rattle.calculus.specs.Trails.{Trail, background, decided, foreground, propagated}
 use Rattle.asking.proofs.Steps.{instance-said}
 use Rattle.asking.specs.Steps.{stepOf}
+use Rattle.asking.specs.declared.Step.{Step}
 use Rattle.rules.proofs.Reached.{fine-short, reached-fine}
+use Rattle.rules.proofs.Runs.{no-conflict}
 use Rattle.trail.proofs.Stored.{row-held}
 use Rattle.trail.specs.Entries.{AllShort, packedEntry}
 use Rattle.trail.specs.declared.Entry.{Entry}
-use Rattle.state.specs.Replaying.{AgainRestarts, BehindReplays, behind, behindEntry}
-use Rattle.state.specs.States.{packedState}
+use Rattle.state.specs.Runs.{AgainRestarts, BehindReplays, CodeAccepts, CodeReplays, again, behind, behindEntry, over, then}
+use Rattle.state.specs.States.{packedAnswer, packedState}
+use Rattle.state.specs.declared.State.{State}
+use Rattle.state.proofs.Runs.{answers-so}
 
 pub again-restarts : AgainRestarts
 again-restarts s = refl
@@ -41,3 +50,20 @@ behind-says s few short = ap (λ (es : List Entry). map stepOf (flatMap behindEn
 
 pub behind-replays : BehindReplays
 behind-replays s h = let F = reached-fine s h in behind-says s (F .few-entries) (fine-short (clauses s) (s .constants) (s .trail) (F .entries))
+
+-- Steps that the rules accept one after the other, given to the code
+code-accepts : {s s′ : states.State} {ys : List states.Step} (xs : List Step) → map stepOf xs ≡ ys → Reached (plain whole) s → AcceptedRun (plain whole) s ys s′ → CodeAccepts (packedState s) xs (packedState s′)
+code-accepts [] e R (AcceptedRun.over q) = over (ap packedState q)
+code-accepts [] e R (AcceptedRun.then b j n rest) = absurd (let z : _≡_ {A = ℕ} 0 1 = cc in omega arith)
+code-accepts (x ∷ xs) e R (AcceptedRun.over q) = absurd (let z : _≡_ {A = ℕ} 0 1 = cc in omega arith)
+code-accepts {s} (x ∷ xs) e R (AcceptedRun.then {x = y} {xs = ys} b j n rest) =
+    let first : y ≡ stepOf x = cc in
+    let others : map stepOf xs ≡ ys = cc in
+    let k = subst (λ q. Judged whole s q b) first j in
+    then x (packedAnswer b) (s, record { reached = R; is = refl }) (answers-so s x b R k) n (code-accepts xs others (steps-keep-reached (plain whole) s (stepOf x) b R k) rest)
+
+pub code-replays : CodeReplays
+code-replays r (s, S) free =
+    let calm = no-conflict (s .conflict) (sym (ap (λ (q : State). q .run .stands) (S .is)) ∙ free) in
+    let start = start-reached (plain whole) (restarted s) (restarted-starts whole s (S .reached)) in
+    subst (λ (q : State). CodeAccepts (again q) (behind q) q) (sym (S .is)) (code-accepts (behind (packedState s)) (behind-replays s (S .reached)) start (replays whole s (S .reached) calm))

@@ -23,8 +23,7 @@ use Rattle.calculus.specs.Runs.{plain}
 use Rattle.calculus.specs.States as states
 use Rattle.calculus.specs.States.{Propagate, Decide, Conflict, Resolve, Factorize, Skip, Backtrack, Grow, Unknown, clauses, conflictOf}
 use Rattle.calculus.specs.Trails.{Trail}
-use Rattle.calculus.proofs.Answers.{accepted-leads-on, refused-hands-back}
-use Rattle.calculus.proofs.Demands.{run-input}
+use Rattle.calculus.proofs.Sound.{run-input}
 use Rattle.calculus.proofs.Runs.{steps-keep-reached}
 use Rattle.clauses.specs.Records.{packed}
 use Rattle.clauses.proofs.Records.{pastTable}
@@ -196,8 +195,8 @@ module _ {run : Run} {s : states.State} (R : RunOf run s) (y : states.Step) (a :
 
   changes : Changes
   changes = elim (ℕ-discrete (b .number) accepted) [
-    | yes e ↦ went (accepted-leads-on whole s y b (told .1) e) (learned-as (sym (rw (eq-eqb (b .number) accepted e)))) (learns s y)
-    | no e ↦ none (learned-as (sym (rw (ne-eqb (b .number) accepted e)))) (ap clauses (refused-hands-back whole s y b (told .1) e))
+    | yes e ↦ went (told .1 .next-state e) (learned-as (sym (rw (eq-eqb (b .number) accepted e)))) (learns s y)
+    | no e ↦ none (learned-as (sym (rw (ne-eqb (b .number) accepted e)))) (ap clauses (told .1 .handed-back e))
   ]
     where
       went : b .state ≡ next s y → a .learned ≡ learnsAt s y → ((learnsAt s y ≡ 0) × (clauses (next s y) ≡ clauses s)) ⊎ ((learnsAt s y ≡ suc (length (clauses s))) × (clauses (next s y) ≡ clauses s ++ (conflictOf (s .conflict) .clause ∷ []))) → Changes

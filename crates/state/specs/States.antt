@@ -51,7 +51,7 @@ packedAnswer a = record { state = packedState (a .state); number = a .number; pl
 abbrev pub PackingInjective : Type 0
 PackingInjective = (s s′ : states.State) → Reached (plain whole) s → Reached (plain whole) s′ → packedState s ≡ packedState s′ → s ≡ s′
 
--- Taken for granted of a state record: it is that of a state reached.
+-- Taken for granted of a state record: it is that of a state reached, from admitted clauses or from any other start.
 pub record StateOf (r : State) (s : states.State) : Type 0 where
   pub reached : Reached (plain whole) s
   pub is : r ≡ packedState s
@@ -65,8 +65,9 @@ Answers r x a = (s : states.State) → StateOf r s → (b : Answer) × Judged wh
 
 -- ---- admission
 
--- "Only admission makes a state": of what it accepts, the state in which nothing has been done. A refused file yields no state: beside the
--- refusal stands the state of no clauses.
+-- "Only admission makes a state": of what it accepts, the state in which nothing has been done. "A refused file yields no state": the answer is a
+-- struct, since no enum holds an array, and so some record stands beside a refusal. It is that of no clauses, no predicates and no constants, in
+-- which nothing of what was offered is left; no step but Grow is accepted there.
 abbrev pub madeOf : ℕ → ℕ → List ℕ → List calculus.Clause → states.State
 madeOf number constants arities cs = cond (eqb number accepted) (fresh constants arities cs) (fresh 0 [] [])
 
@@ -112,42 +113,10 @@ tableAfter table r a = cond (ltb 0 (a .learned)) (set table (a .learned - 1) (r 
 abbrev pub StepKeeps : Type 0
 StepKeeps = (r : State) (x : Step) (a : Answered) → Made r → Answers r x a → Made (a .state)
 
+-- Every step has an answer where `step` may be asked. Proved in proofs/Runs.antt.
+abbrev pub EveryStepAnswered : Type 0
+EveryStepAnswered = (r : State) (x : Step) → Made r → (a : Answered) × Answers r x a
+
 -- The answer is unique. Proved in proofs/Runs.antt.
 abbrev pub AnswerUnique : Type 0
 AnswerUnique = (r : State) (x : Step) (a b : Answered) → Made r → Answers r x a → Answers r x b → a ≡ b
-
--- ---- runs
-
--- A run of the code: steps given to `step` one after the other, each at the state that the one before handed back.
-pub data CodeRun : State → List Step → State → Type 0 where
-  over : {r r′ : State} → r ≡ r′ → CodeRun r [] r′
-  then : {r r′ : State} (x : Step) {xs : List Step} (a : Answered) → Answers r x a → CodeRun (a .state) xs r′ → CodeRun r (x ∷ xs) r′
-
--- Any run of the code from a state that admission made is a run of the calculus. Proved in proofs/Runs.antt.
-abbrev pub CodeRunsAreRuns : Type 0
-CodeRunsAreRuns = (s₀ : states.State) (r : State) (xs : List Step) → Admitted s₀ → CodeRun (packedState s₀) xs r
-    → (s : states.State) × runs.Run (plain whole) s₀ (map stepOf xs) s × (r ≡ packedState s)
-
--- So soundness holds of the code: "a run that reaches a conflict without foreground literals shows that no reading of the predicates over the
--- whole numbers makes every input clause true."
-abbrev pub CodeSound : Type 1
-CodeSound = (s₀ : states.State) (r : State) (xs : List Step) → Admitted s₀ → CodeRun (packedState s₀) xs r → r .run .stands ≡ true → r .run .conflict .clause .literalcount ≡ 0
-    → (I : Reading whole (s₀ .arities)) → ((C : calculus.Clause) → List·Memᴰ C (s₀ .input) → True whole (s₀ .arities) I C) → ⊥
-
--- .. and so does replay: ending with no conflict standing, the steps behind the trail's foreground entries, started again from an empty trail,
--- are each accepted and give the same state.
-abbrev pub CodeReplays : Type 0
-CodeReplays = (s₀ : states.State) (r : State) (xs : List Step) → Admitted s₀ → CodeRun (packedState s₀) xs r → r .run .stands ≡ false
-    → (s : states.State) × (r ≡ packedState s) × runs.AcceptedRun (plain whole) (runs.restarted s) (runs.replayed (s .trail)) s
-
--- ---- from the front door on: what was offered, accepted by `admit` and then changed by `step` alone
-
-abbrev pub AdmittedCodeSound : Type 1
-AdmittedCodeSound = (constants : ℕ) (arities : List ℕ) (cs : List calculus.Clause) (a : Opened) (r : State) (xs : List Step)
-    → a ≡ opened constants arities cs → a .number ≡ accepted → CodeRun (a .state) xs r → r .run .stands ≡ true → r .run .conflict .clause .literalcount ≡ 0
-    → (I : Reading whole arities) → ((C : calculus.Clause) → List·Memᴰ C cs → True whole arities I C) → ⊥
-
-abbrev pub AdmittedCodeReplays : Type 0
-AdmittedCodeReplays = (constants : ℕ) (arities : List ℕ) (cs : List calculus.Clause) (a : Opened) (r : State) (xs : List Step)
-    → a ≡ opened constants arities cs → a .number ≡ accepted → CodeRun (a .state) xs r → r .run .stands ≡ false
-    → (s : states.State) × (r ≡ packedState s) × runs.AcceptedRun (plain whole) (runs.restarted s) (runs.replayed (s .trail)) s

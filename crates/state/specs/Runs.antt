@@ -1,11 +1,12 @@
--- Replay of the code: where it starts and the steps that it gives, read off the record of the final state.
+-- Runs of the code: steps given to `step`; and replay: where it starts and the steps that it gives, read off the record of the final state.
 use mathlib.Core.Path.{_≡_}
 use mathlib.Core.List.{List, [], _∷_, flatMap, map}
 use mathlib.Core.Bool.{cond, false}
 use lib.ListN.{take}
 use Rattle.basis.specs.Numbers.{whole}
+use Rattle.basis.specs.Refusals.{accepted}
 use Rattle.calculus.specs.Clauses.{noInstanced}
-use Rattle.calculus.specs.Runs.{Reached, plain, replayed, restarted}
+use Rattle.calculus.specs.Runs.{Reached, Run, plain, replayed, restarted}
 use Rattle.calculus.specs.States as states
 use Rattle.clauses.specs.Records.{packedInstanced}
 use Rattle.trail.specs.Entries.{packedTrail}
@@ -14,8 +15,28 @@ use Rattle.trail.specs.declared.Kind.{Kind}
 use Rattle.trail.specs.declared.Kind.the-variants.{Background, Propagated, Decided}
 use Rattle.asking.specs.Steps.{stepOf}
 use Rattle.asking.specs.declared.Step.{Step}
-use Rattle.state.specs.States.{packedState}
+use Rattle.state.specs.States.{Answers, Made, packedState}
+use Rattle.state.specs.declared.Answered.{Answered}
 use Rattle.state.specs.declared.State.{State}
+
+-- Steps given to `step` one after the other, each at the record that the one before handed back, which `step` may take; of each answer P holds.
+pub data CodeGoes (P : Answered → Type 0) : State → List Step → State → Type 0 where
+  over : {r r′ : State} → r ≡ r′ → CodeGoes P r [] r′
+  then : {r r′ : State} (x : Step) {xs : List Step} (a : Answered) → Made r → Answers r x a → P a → CodeGoes P (a .state) xs r′ → CodeGoes P r (x ∷ xs) r′
+
+-- Any run, refused steps among them, and one with each step accepted
+abbrev pub CodeRun : State → List Step → State → Type 0
+CodeRun = CodeGoes (λ a. Unit {0})
+
+abbrev pub CodeAccepts : State → List Step → State → Type 0
+CodeAccepts = CodeGoes (λ a. a .number ≡ accepted)
+
+-- Any run of the code is a run of the calculus. Proved in proofs/Runs.antt.
+abbrev pub CodeRunsAreRuns : Type 0
+CodeRunsAreRuns = (s₀ : states.State) (r : State) (xs : List Step) → Reached (plain whole) s₀ → CodeRun (packedState s₀) xs r
+    → (s : states.State) × Run (plain whole) s₀ (map stepOf xs) s × (r ≡ packedState s)
+
+-- ---- replay
 
 -- "Start again from an empty trail at level 0, with the input clauses, constants and learned clauses held at the end."
 abbrev pub again : State → State
@@ -55,3 +76,8 @@ AgainRestarts = (s : states.State) → again (packedState s) ≡ packedState (re
 
 abbrev pub BehindReplays : Type 0
 BehindReplays = (s : states.State) → Reached (plain whole) s → map stepOf (behind (packedState s)) ≡ replayed (s .trail)
+
+-- So replay is a run of the code: where no conflict stands, the steps behind the trail, given to `step` from the state started again, are each
+-- accepted and lead to the same record. Proved in proofs/Replaying.antt.
+abbrev pub CodeReplays : Type 0
+CodeReplays = (r : State) → Made r → r .run .stands ≡ false → CodeAccepts (again r) (behind r) r
