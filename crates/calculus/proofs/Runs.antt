@@ -6,7 +6,7 @@ use lib.ListN.{length}
 use Rattle.calculus.specs.Admission.{Admitted}
 use Rattle.calculus.specs.Clauses.{Clause}
 use Rattle.calculus.specs.Rules.{Reply}
-use Rattle.calculus.specs.Runs.{AdmittedStarts, Judge, Run, StartReached, StepsKeepReached, restarted}
+use Rattle.calculus.specs.Runs.{AdmittedStarts, Judge, Reached, Run, StartReached, StepsKeepReached, restarted}
 use Rattle.calculus.specs.States.{State, Step}
 
 pub none-learned : (s : State) → Admitted s → s .learned ≡ []
@@ -23,6 +23,9 @@ admitted-starts s a = record {
 
 pub start-reached : StartReached
 start-reached J s S = record { first = s; steps = []; start = S; run = Run.over refl }
+
+pub admitted-reached : (J : Judge) (s : State) → Admitted s → Reached J (J .start s)
+admitted-reached J s a = start-reached J s (admitted-starts s a)
 
 -- One step more
 run-more : (J : Judge) {o o₁ : J .Over} {xs : List Step} (x : Step) (a : Reply (J .Over)) → Run J o xs o₁ → J .Gives o₁ x a → Run J o (xs ++ (x ∷ [])) (a .state)

@@ -14,7 +14,7 @@ use Rattle.calculus.specs.Rules.{Answer}
 use Rattle.calculus.specs.Runs.{Reached, plain}
 use Rattle.calculus.specs.States as states
 use Rattle.calculus.specs.States.{clauses}
-use Rattle.calculus.proofs.Answers.{number-in-table, refused-hands-back}
+use Rattle.calculus.proofs.Answers.{number-in-table}
 use Rattle.calculus.proofs.Runs.{admitted-reached, steps-keep-reached}
 use Rattle.runfile.specs.Readers.{got}
 use Rattle.runfile.specs.File.{File, file, header, mostSteps, step}
@@ -184,7 +184,7 @@ module _ {s d d′ : List ℕ} {n cursor at j : ℕ} {run : Run} {table : List C
         line k = refusedLine (j + 1) x k
 
         back : b .state ≡ S .state
-        back = refused-hands-back whole (S .state) x b (told .1) (λ q. z (number-is ∙ q))
+        back = told .1 .handed-back (λ q. z (number-is ∙ q))
 
     -- An accepted one: its line follows the others, and what it learned stands in the table.
     pub turn : a .number ≡ 0 → {run₂ : Run} → run₂ ≡ a .run → {table₂ : List Clause} → table₂ ≡ tableAfter table run a

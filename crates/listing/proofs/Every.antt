@@ -1,4 +1,4 @@
--- Every file has a listing, the rules over the whole numbers answer every step, and demand 1.
+-- Every file has a listing, and the rules over the whole numbers answer every step.
 use mathlib.Core.Path.{_≡_, refl}
 use mathlib.Core.List.{List, [], _∷_}
 use Prim.Native.Nat.{ℕ, _+_}
@@ -9,16 +9,15 @@ use Rattle.calculus.specs.Asks.{answer}
 use Rattle.calculus.specs.Rules.{Reply}
 use Rattle.calculus.specs.Runs.{AnswersAll, Judge, Reached, plain}
 use Rattle.calculus.specs.States.{Step}
-use Rattle.calculus.proofs.Answers.{number-in-table, refused-hands-back}
+use Rattle.calculus.proofs.Answers.{judged-by}
 use Rattle.calculus.proofs.Runs.{admitted-reached, steps-keep-reached}
 use Rattle.runfile.specs.Readers.{Got, got, bad}
 use Rattle.runfile.specs.File.{File, file}
 use Rattle.runfile.specs.Claims.{Outcome, opened}
 use Rattle.runfile.proofs.Given.{every-file}
 use Rattle.rules.proofs.Told.{decided}
-use Rattle.listing.specs.Lines.{lastLine}
 use Rattle.listing.specs.Listing.{Tried, through, refused, went, Printed, badFile, goodFile}
-use Rattle.listing.specs.Claims.{EveryFileListed, Demand1}
+use Rattle.listing.specs.Claims.{EveryFileListed}
 
 module _ (J : Judge) (all : AnswersAll J) where
   tried : (xs : List Step) (o : J .Over) (n : ℕ) → Reached J o → (w : List ℕ) × (e : Reply (J .Over)) × Tried J o n xs w e
@@ -39,10 +38,4 @@ every-file-listed J all after s = go (file s) refl (every-file s)
 
 -- A step has an answer, whatever the state.
 pub answers-all : AnswersAll (plain whole)
-answers-all s R x = let (b, d) = decided s x in (answer b s x, record { possible = b; decides = d; is = refl })
-
-pub demand-1 : Demand1
-demand-1 = (
-  λ s. (every-file s, every-file-listed (plain whole) answers-all lastLine s),
-  λ s x R. let (a, j) = answers-all s R x in (a, j, number-in-table whole s x a j, refused-hands-back whole s x a j),
-)
+answers-all s R x = let (b, d) = decided s x in (answer b s x, judged-by whole b s x d)

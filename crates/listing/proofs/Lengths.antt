@@ -9,7 +9,7 @@ use Rattle.calculus.specs.Rules.{Reply}
 use Rattle.calculus.specs.Runs.{Judge, Reached, plain, stated}
 use Rattle.calculus.specs.States.{Step}
 use Rattle.calculus.proofs.Answers.{answer-unique, number-in-table}
-use Rattle.calculus.proofs.Demands.{demand-2}
+use Rattle.calculus.proofs.Sound.{sound-judge}
 use Rattle.calculus.proofs.Runs.{admitted-reached, steps-keep-reached}
 use Rattle.runfile.specs.File.{mostSteps}
 use Rattle.runfile.specs.Claims.{Outcome, opened}
@@ -50,4 +50,4 @@ plain-modest = record {
 }
 
 pub plain-judge : PlainJudge
-plain-judge = (answers-all, answer-unique whole, plain-modest, demand-2)
+plain-judge = (answers-all, answer-unique whole, plain-modest, sound-judge whole)

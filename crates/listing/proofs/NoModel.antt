@@ -13,6 +13,7 @@ use Rattle.basis.specs.declared.Literal.{Literal}
 use Rattle.lists.proofs.Parts.{same-ends}
 use Rattle.calculus.specs.Clauses.{Instanced}
 use Rattle.calculus.specs.Rules.{Reply}
+use Rattle.calculus.proofs.Sound.{admitted-sound}
 use Rattle.calculus.specs.Runs.{Judge, Run}
 use Rattle.calculus.specs.States.{Step}
 use Rattle.runfile.specs.Readers.{got}
@@ -75,4 +76,4 @@ refuted-has-no-model N J sound s w v (goodFile F next {w = lines} a f t) e =
     let (ys, r) = tried-run t in
     let conflict = J .state (a .state) .conflict in
     let (K, c, z) = no-literals conflict (closing-refuted lines v (isRefutation conflict) (a .number) e) in
-    (F, f ∙ ap (got F) whole-file, sound (opened F) (a .state) ys K (sayable .admitted) r c z)
+    (F, f ∙ ap (got F) whole-file, sound (opened F) (a .state) ys K (admitted-sound N (opened F) (sayable .admitted)) r c z)

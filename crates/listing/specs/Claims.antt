@@ -1,4 +1,4 @@
--- What holds of listings: every file has exactly one, `refuted` shows that the clauses have no model, and demand 1. What holds of every judge
+-- What holds of listings: every file has exactly one, and `refuted` shows that the clauses have no model. What holds of every judge
 -- is stated of every judge; the rules over the whole numbers are one. Proved in proofs/.
 use mathlib.Core.Path.{_≡_}
 use mathlib.Core.List.{List, _++_, List·Memᴰ}
@@ -6,20 +6,18 @@ use Prim.Native.Nat.{ℕ, _<_, _≤_}
 use lib.ListN.{length}
 use Rattle.basis.specs.Limits.{mostEntries}
 use Rattle.basis.specs.Numbers.{Numbers, whole}
-use Rattle.basis.specs.Refusals.{accepted, noRoom}
+use Rattle.basis.specs.Refusals.{noRoom}
 use Rattle.calculus.specs.Clauses.{Clause}
-use Rattle.calculus.specs.Demands.{SoundJudge}
-use Rattle.calculus.specs.Conditions.{Judged}
+use Rattle.calculus.specs.Sound.{SoundJudge}
 use Rattle.calculus.specs.Rules.{Answer, Reply}
 use Rattle.calculus.specs.Runs.{AnswersAll, AnswersOnce, Judge, Reached, plain}
-use Rattle.calculus.specs.States.{State, Step}
+use Rattle.calculus.specs.States.{Step}
 use Rattle.calculus.specs.Truth.{Reading, True}
 use Rattle.runfile.specs.Readers.{got}
 use Rattle.runfile.specs.File.{File, file}
-use Rattle.runfile.specs.Claims.{Outcome}
 use Rattle.text.specs.Text.{bytes}
 use Rattle.listing.specs.Lines.{lastLine}
-use Rattle.listing.specs.Listing.{Printed, Listing, Ends, mostListing}
+use Rattle.listing.specs.Listing.{Printed, Ends, mostListing}
 
 -- ---- of every judge
 
@@ -56,21 +54,6 @@ RefutedHasNoModel = (N : Numbers) (J : Judge) → SoundJudge N J → (s w v : Li
 
 -- ---- of the rules over the whole numbers
 
--- They are such a judge in each respect: they answer all steps, none in two ways, modestly and soundly. Their soundness is demand 2.
+-- They are such a judge in each respect: they answer all steps, none in two ways, modestly and soundly. Their soundness is demand 2's second sentence.
 abbrev pub PlainJudge : Type 1
 PlainJudge = AnswersAll (plain whole) × AnswersOnce (plain whole) × Modest (plain whole) × SoundJudge whole (plain whole)
-
--- ---- demand 1: "Whatever run file or step is offered, the tool ends with a right result or a numbered refusal from its table."
-
--- Of a file: it says an admitted state with its steps, or is refused by a number from 1 to 8 with its place; and it has a listing.
-abbrev pub EveryFileAnswered : Type 0
-EveryFileAnswered = (s : List ℕ) → Outcome s (file s) × ((w : List ℕ) × Listing s w)
-
--- Of a step, at any state reached: there is an answer, accepted or with a number of the table, and "a refused step hands back the state it
--- was given, unchanged".
-abbrev pub EveryStepAnswered : Type 0
-EveryStepAnswered = (s : State) (x : Step) → Reached (plain whole) s
-    → (a : Answer) × Judged whole s x a × (a .number ≤ noRoom) × (¬ (a .number ≡ accepted) → a .state ≡ s)
-
-abbrev pub Demand1 : Type 0
-Demand1 = EveryFileAnswered × EveryStepAnswered

@@ -19,7 +19,7 @@ use Rattle.calculus.specs.Clauses as calculus
 use Rattle.calculus.proofs.Admitting.{admitted-exactly}
 use Rattle.clauses.specs.Records.{packed}
 use Rattle.clauses.specs.declared.Clause.{Clause}
-use Rattle.calculus.proofs.Runs.{admitted-starts, start-reached}
+use Rattle.calculus.proofs.Runs.{admitted-reached}
 use Rattle.calculus.specs.Runs.{plain}
 use Rattle.basis.specs.Numbers.{whole}
 use Rattle.state.specs.States.{AdmitKeeps, AdmitMakesStates, IsNew, madeOf, newRun, opened, packedState, packedTable}
@@ -87,7 +87,7 @@ module _ (constants : ℕ) (arities : List ℕ) (cs : List calculus.Clause) {t :
 -- ---- what `step` takes for granted
 
 -- A state of no clauses, no predicates and no constants
-none-admitted : Admitted (fresh 0 [] [])
+pub none-admitted : Admitted (fresh 0 [] [])
 none-admitted = record {
   few-constants = omega arith;
   few-predicates = omega arith;
@@ -110,10 +110,10 @@ module _ (constants : ℕ) (arities : List ℕ) (cs : List calculus.Clause) (a :
 pub admit-makes-states : AdmitMakesStates
 admit-makes-states constants arities cs a e h =
     let k = admitted-exactly constants arities cs .0 (sym (refusal-is constants arities cs a e) ∙ h) in
-    (k, record { reached = start-reached (plain whole) (fresh constants arities cs) (admitted-starts (fresh constants arities cs) k); is = state-is constants arities cs a e ∙ ap packedState (made-accepted (a .number) constants arities cs h) })
+    (k, record { reached = admitted-reached (plain whole) (fresh constants arities cs) k; is = state-is constants arities cs a e ∙ ap packedState (made-accepted (a .number) constants arities cs h) })
 
 pub admit-keeps : AdmitKeeps
 admit-keeps constants arities cs a e = elim (ℕ-discrete (a .number) accepted) [
   | yes h ↦ (fresh constants arities cs, admit-makes-states constants arities cs a e h .1)
-  | no h ↦ (fresh 0 [] [], record { reached = start-reached (plain whole) (fresh 0 [] []) (admitted-starts (fresh 0 [] []) none-admitted); is = state-is constants arities cs a e ∙ ap packedState (made-refused (a .number) constants arities cs h) })
+  | no h ↦ (fresh 0 [] [], record { reached = admitted-reached (plain whole) (fresh 0 [] []) none-admitted; is = state-is constants arities cs a e ∙ ap packedState (made-refused (a .number) constants arities cs h) })
 ]

@@ -1,6 +1,6 @@
 -- Any run of the code is a run of the calculus; every step has an answer, and one only.
 use mathlib.Core.Path.{_≡_, refl, subst, sym, ap, _∙_}
-use mathlib.Core.List.{List, [], _∷_, map}
+use mathlib.Core.List.{List, map}
 use Rattle.basis.specs.Numbers.{whole}
 use Rattle.calculus.specs.Asks.{answer}
 use Rattle.calculus.specs.Conditions.{Judged}
