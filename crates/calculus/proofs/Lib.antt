@@ -1,6 +1,5 @@
 -- The laws and proofs behind the calculus's theorems. Nothing here has to be read to believe them.
 
-pub mod MergingExamples
 pub mod Merged
 pub mod Instances
 pub mod Truths
@@ -21,4 +20,3 @@ pub mod Merges
 pub mod Certificates
 pub mod Examples
 pub mod FalseTools
-pub mod Speed
