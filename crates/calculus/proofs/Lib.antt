@@ -17,6 +17,7 @@ pub mod Levels
 pub mod Invariant
 pub mod Demands
 pub mod Merges
+pub mod Closed
 pub mod Certificates
 pub mod Examples
 pub mod FalseTools
