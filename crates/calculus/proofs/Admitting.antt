@@ -60,7 +60,7 @@ proper-literal-says arities v l =
     others : List ℕ
     others = drop (arityOf arities (l .predicate)) (arguments l)
 
-occurs-says : (C : Clause) (x : ℕ) → T (occursIn (C .atoms) (C .literals) x) ↔ Occurs C x
+pub occurs-says : (C : Clause) (x : ℕ) → T (occursIn (C .atoms) (C .literals) x) ↔ Occurs C x
 occurs-says C x =
     says-also
     (or-says (anyOf (λ (a : Atom). eqb x (a .p) || eqb x (a .q)) (C .atoms)) _

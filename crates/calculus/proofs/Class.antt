@@ -97,7 +97,7 @@ differences-append az bz h k a m np nq = go (List·Memᴰ·append-cases az m)
 
 -- ---- renaming by f, which keeps 0 and sends each variable that occurs to one up to w
 
-record Renames (az : List Atom) (ls : List Literal) (v w : ℕ) (f : ℕ → ℕ) : Type 0 where
+pub record Renames (az : List Atom) (ls : List Literal) (v w : ℕ) (f : ℕ → ℕ) : Type 0 where
   pub zero-stays : f zero ≡ zero
   pub stays-in : (x : ℕ) → T (occursIn az ls x) → 1 ≤ x → x ≤ v → (1 ≤ f x) × (f x ≤ w)
 
@@ -206,7 +206,7 @@ module _ {arities : List ℕ} (es : List (ℕ × ℕ)) (v : ℕ) (az : List Atom
     stays-in = λ x o a b. (joins-above v es (upFrom 1 v) pairs (λ y c d. subst (λ q. 1 ≤ q) (sym (upFrom-under v y d)) c) x a b, omega (arith, joins-le es (upFrom 1 v) x, upFrom-under v x b));
   }
 
-closed-renames : (v : ℕ) (az : List Atom) (ls : List Literal) → Renames az ls v (length (keepIf (occursIn az ls) (upFrom 1 v))) (λ x. indexOf x (zero ∷ keepIf (occursIn az ls) (upFrom 1 v)))
+pub closed-renames : (v : ℕ) (az : List Atom) (ls : List Literal) → Renames az ls v (length (keepIf (occursIn az ls) (upFrom 1 v))) (λ x. indexOf x (zero ∷ keepIf (occursIn az ls) (upFrom 1 v)))
 closed-renames v az ls = record { zero-stays = refl; stays-in = λ x o a b. at x a (keepIf-in (occursIn az ls) (upFrom 1 v) (upFrom-mem 1 v x a (omega arith)) o) }
   where
     at : (x : ℕ) → 1 ≤ x → List·Memᴰ x (keepIf (occursIn az ls) (upFrom 1 v)) → (1 ≤ indexOf x (zero ∷ keepIf (occursIn az ls) (upFrom 1 v))) × (indexOf x (zero ∷ keepIf (occursIn az ls) (upFrom 1 v)) ≤ length (keepIf (occursIn az ls) (upFrom 1 v)))
@@ -245,37 +245,28 @@ used-map f az ls k t = go (said (anyOf inA az))
         let (x, n, w) = anyOf-out (eqb k) (arguments l) u in
         or-r (anyOf outA (map (renameAtom f) az)) (anyOf outL (map (renameLiteral f) ls)) (anyOf-in outL (map (renameLiteral f) ls) (Memᴰ·map (renameLiteral f) m) (anyOf-in (eqb (f k)) (map f (arguments l)) (Memᴰ·map f n) (same x w)))
 
--- After closing up every variable occurs.
-close-occurs : (v : ℕ) (az : List Atom) (ls : List Literal) (τ : List ℕ) (x : ℕ) → 1 ≤ x → x ≤ closeUp v az ls τ .clause .variables → T (occursIn (closeUp v az ls τ .clause .atoms) (closeUp v az ls τ .clause .literals) x)
-unfolding closeUp
-close-occurs v az ls τ zero h k = absurd (omega arith)
-close-occurs v az ls τ (suc j) h k =
-    subst (λ q. T (occursIn (map (renameAtom r) az) (map (renameLiteral r) ls) q)) at (used-map r az ls y (keepIf-sat (occursIn az ls) (upFrom 1 v) mem))
+-- Each number after closing up is that of a variable that was kept.
+pub closed-from : (v : ℕ) (az : List Atom) (ls : List Literal) (j : ℕ) → j < length (keepIf (occursIn az ls) (upFrom 1 v))
+    → (y : ℕ) × List·Memᴰ y (keepIf (occursIn az ls) (upFrom 1 v)) × (indexOf y (zero ∷ keepIf (occursIn az ls) (upFrom 1 v)) ≡ suc j)
+closed-from v az ls j lt =
+    let m = getD-mem ks j zero lt in
+    (getD ks j zero, m, step (getD ks j zero) (upFrom-out 1 v (getD ks j zero) (keepIf-out (occursIn az ls) (upFrom 1 v) m) .0) (indexOf-keepIf (occursIn az ls) 1 v j lt))
   where
     ks : List ℕ
     ks = keepIf (occursIn az ls) (upFrom 1 v)
-
-    r : ℕ → ℕ
-    r x = indexOf x (zero ∷ ks)
-
-    lt : j < length ks
-    lt = k
-
-    y : ℕ
-    y = getD ks j zero
-
-    mem : List·Memᴰ y ks
-    mem = getD-mem ks j zero lt
-
-    ge : 1 ≤ y
-    ge = upFrom-out 1 v y (keepIf-out (occursIn az ls) (upFrom 1 v) mem) .0
 
     step : (y : ℕ) → 1 ≤ y → indexOf y ks ≡ j → indexOf y (zero ∷ ks) ≡ suc j
     step zero h e = absurd (omega arith)
     step (suc y) h e = rw (eqb·suc-zero y) (ap suc e)
 
-    at : r y ≡ suc j
-    at = step y ge (indexOf-keepIf (occursIn az ls) 1 v j lt)
+-- After closing up every variable occurs.
+close-occurs : (v : ℕ) (az : List Atom) (ls : List Literal) (τ : List ℕ) (x : ℕ) → 1 ≤ x → x ≤ closeUp v az ls τ .clause .variables → T (occursIn (closeUp v az ls τ .clause .atoms) (closeUp v az ls τ .clause .literals) x)
+unfolding closeUp
+close-occurs v az ls τ zero h k = absurd (omega arith)
+close-occurs v az ls τ (suc j) h k =
+    let (y, m, e) = closed-from v az ls j k in
+    let r : ℕ → ℕ = λ x. indexOf x (zero ∷ keepIf (occursIn az ls) (upFrom 1 v)) in
+    subst (λ q. T (occursIn (map (renameAtom r) az) (map (renameLiteral r) ls) q)) e (used-map r az ls y (keepIf-sat (occursIn az ls) (upFrom 1 v) m))
 
 -- ---- a merged clause is of the class
 

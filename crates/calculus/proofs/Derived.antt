@@ -116,7 +116,7 @@ module _ (C : Clause) (i : ℕ) (τ : List ℕ) (n : ℕ) (lt : i < length (C .l
   unfolding g reason merge
   reason-atoms = merge-atoms (ownPairs τ g L (C .literals)) (C .variables) (C .atoms) (reasonLiterals τ g i (C .literals)) τ fit wf′
 
-  reason-literals : map (ground (reason C i τ .of .instance)) (reason C i τ .of .clause .literals) ≡ map (ground τ) (reasonLiterals τ g i (C .literals))
+  pub reason-literals : map (ground (reason C i τ .of .instance)) (reason C i τ .of .clause .literals) ≡ map (ground τ) (reasonLiterals τ (ground τ (getD (C .literals) i noLiteral)) i (C .literals))
   unfolding g reason merge
   reason-literals = merge-literals (ownPairs τ g L (C .literals)) (C .variables) (C .atoms) (reasonLiterals τ g i (C .literals)) τ fit wf′
 

@@ -49,7 +49,7 @@ pub upFrom-under : (v x : ℕ) → x ≤ v → under (upFrom 1 v) x ≡ x
 upFrom-under v zero h = refl
 upFrom-under v (suc x) h = let k = upFrom-get 1 v x (omega arith) in omega arith
 
-close-get : (τ ks : List ℕ) (y : ℕ) → (y ≡ zero) ⊎ List·Memᴰ y ks → under (map (under τ) ks) (indexOf y (zero ∷ ks)) ≡ under τ y
+pub close-get : (τ ks : List ℕ) (y : ℕ) → (y ≡ zero) ⊎ List·Memᴰ y ks → under (map (under τ) ks) (indexOf y (zero ∷ ks)) ≡ under τ y
 close-get τ ks zero c = refl
 close-get τ ks (suc y) (inl e) = absurd (omega arith)
 close-get τ ks (suc y) (inr m) = rw (eqb·suc-zero y) (indexOf-get (under τ) (suc y) ks m)

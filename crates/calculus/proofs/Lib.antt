@@ -1,6 +1,5 @@
 -- The laws and proofs behind the calculus's theorems. Nothing here has to be read to believe them.
 
-pub mod MergingExamples
 pub mod Merged
 pub mod Instances
 pub mod Truths
@@ -17,7 +16,7 @@ pub mod Levels
 pub mod Invariant
 pub mod Sound
 pub mod Merges
+pub mod Closed
 pub mod Certificates
 pub mod Examples
 pub mod FalseTools
-pub mod Speed

@@ -1,22 +1,23 @@
 -- Merging makes the groups that the pairs ask for, keeps each atom once and the literals that are named.
-use mathlib.Core.Path.{_∙_, _≡_, ap, refl, sym}
+use mathlib.Core.Path.{_∙_, _≡_, ap, ap₂, refl, sym}
 use mathlib.Core.Logic.{_⊎_, inl, inr}
-use mathlib.Core.List.{List, List·Memᴰ, List·Memᴰ·head, List·Memᴰ·tail, [], _∷_}
+use mathlib.Core.List.{List, List·Memᴰ, List·Memᴰ·head, List·Memᴰ·tail, [], _++_, _∷_, map}
 use mathlib.Core.Bool.{Bool, cond, false, not, true}
-use Prim.Native.Nat.{_-_, _≤_, max, min, ℕ}
+use Prim.Native.Nat.{_-_, _≤_, max, min, suc, ℕ}
 use native.Mathlib.Omega.{arith}
 use lib.Dec.{T-not, eqb, eqb→eq, leb, leb→le, nleb→lt}
-use lib.ListN.{getD}
+use lib.ListN.{getD, length, length-append}
+use lib.Seq.{getD-append-seam}
 use Rattle.basis.specs.declared.Atom.{Atom}
 use Rattle.basis.specs.declared.Literal.{Literal}
-use Rattle.lists.proofs.Members.{keepIf-out, keepIf-sat}
+use Rattle.lists.proofs.Members.{keepIf-out, keepIf-sat, map-keepIf}
 use Rattle.lists.proofs.Tests.{F→eq, Said, T→eq, fails, holds, not-eqb, said}
 use Rattle.lists.specs.Lists.{keepIf, upFrom}
-use Rattle.calculus.specs.Clauses.{Instanced, ground, noLiteral, sameAtom, under}
-use Rattle.calculus.specs.Merges.{AtomsOnce, Instance, LargerGoes, MergedInGroups, NoneTwice, OldThenReasons}
-use Rattle.calculus.specs.Merging.{distinct, join, joins}
+use Rattle.calculus.specs.Clauses.{Instanced, ground, noLiteral, sameAtom, sameLiteral, under}
+use Rattle.calculus.specs.Merges.{AtomsOnce, Instance, LargerGoes, MergedInGroups, NoneTwice, OldThenReasons, OthersGo, otherThan}
+use Rattle.calculus.specs.Merging.{distinct, join, joins, ownIndex, reason, reasonLiterals}
 use Rattle.calculus.proofs.Class.{placed}
-use Rattle.calculus.proofs.Derived.{factored-literals, resolvent-literals}
+use Rattle.calculus.proofs.Derived.{factored-literals, reason-literals, resolvent-literals}
 use Rattle.calculus.proofs.Instances.{Sized, swap-fix, upFrom-under}
 use Rattle.calculus.proofs.Merged.{distinct-in, distinct-out, joins-meet, sameAtom-refl, swap, under-join}
 use Rattle.calculus.proofs.Asks.{between-says}
@@ -141,3 +142,41 @@ larger-goes arities n K h i j e = factored-literals K (i - 1) (j - 1) n (placed 
 
 pub old-then-reasons : OldThenReasons
 old-then-reasons arities n K R h k l own e = resolvent-literals K (l - 1) R own n (placed (h .class)) (sized h) (placed (k .class)) (sized k) e
+
+-- The literals of a reason, and the place of its own one, by what stands before and after L
+module _ (τ : List ℕ) (g L : Literal) (after : List Literal) where
+  reasonLiterals-split : (before : List Literal) → map (ground τ) (reasonLiterals τ g (length before) (before ++ (L ∷ after))) ≡ otherThan g (map (ground τ) before) ++ (ground τ L ∷ otherThan g (map (ground τ) after))
+  reasonLiterals-split [] = ap {B = List Literal} (λ r. ground τ L ∷ r) (map-keepIf (ground τ) (λ h. not (sameLiteral h g)) after)
+  reasonLiterals-split (x ∷ xs) = go (sameLiteral (ground τ x) g) (reasonLiterals-split xs)
+    where
+      r : List Literal
+      r = reasonLiterals τ g (length xs) (xs ++ (L ∷ after))
+
+      s : List Literal
+      s = otherThan g (map (ground τ) xs)
+
+      go : (b : Bool) → map (ground τ) r ≡ s ++ (ground τ L ∷ otherThan g (map (ground τ) after)) → map (ground τ) (cond b r (x ∷ r)) ≡ cond (not b) (ground τ x ∷ s) s ++ (ground τ L ∷ otherThan g (map (ground τ) after))
+      go true e = e
+      go false e = ap {B = List Literal} (λ q. ground τ x ∷ q) e
+
+  ownIndex-split : (before : List Literal) → ownIndex τ g (length before) (before ++ (L ∷ after)) ≡ length (otherThan g (map (ground τ) before))
+  ownIndex-split [] = refl
+  ownIndex-split (x ∷ xs) = go (sameLiteral (ground τ x) g) (ownIndex-split xs)
+    where
+      go : (b : Bool) {n : ℕ} → n ≡ length (otherThan g (map (ground τ) xs)) → cond b n (suc n) ≡ length (cond (not b) (ground τ x ∷ otherThan g (map (ground τ) xs)) (otherThan g (map (ground τ) xs)))
+      go true e = e
+      go false e = ap suc e
+
+pub others-go : OthersGo
+unfolding reason
+others-go arities n K h before L after e = record {
+  kept = reason-literals (K .clause) (length before) τ n (omega (arith, ap length e, length-append before (L ∷ after))) (placed (h .class)) (sized h)
+      ∙ ap₂ (λ l ls. map (ground τ) (reasonLiterals τ (ground τ l) (length before) ls)) at e ∙ reasonLiterals-split τ (ground τ L) L after before;
+  its-place = ap₂ (λ l ls. ownIndex τ (ground τ l) (length before) ls) at e ∙ ownIndex-split τ (ground τ L) L after before;
+}
+  where
+    τ : List ℕ
+    τ = K .instance
+
+    at : getD (K .clause .literals) (length before) noLiteral ≡ L
+    at = ap (λ ls. getD ls (length before) noLiteral) e ∙ getD-append-seam before L after noLiteral

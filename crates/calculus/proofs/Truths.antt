@@ -1,6 +1,6 @@
--- What is true under a reading: merging, the reason, the resolvent and the factored conflict keep it.
+-- What is true under a reading: merging, the reason, the resolvent and the factored conflict keep it; under a decidable one some literal holds.
 use mathlib.Core.Path.{_∙_, _≡_, ap, refl, subst, sym}
-use mathlib.Core.Logic.{_⊎_, inl, inr}
+use mathlib.Core.Logic.{_⊎_, inl, inr, ⊎-elim}
 use mathlib.Core.List.{List, List·Memᴰ, List·Memᴰ·cases-cons, List·Memᴰ·head, List·Memᴰ·not-nil, List·Memᴰ·tail, Memᴰ·append-left, Memᴰ·append-right, Memᴰ·map, [], _++_, _∷_, map}
 use mathlib.Core.Bool.{Bool, cond, false, not, true}
 use Prim.Native.Nat.{_+_, _<_, max, min, suc, zero, ℕ}
@@ -16,7 +16,7 @@ use Rattle.lists.specs.Lists.{indexOf, keepIf, pairUp, upFrom, without}
 use Rattle.calculus.specs.Class.{arityOf}
 use Rattle.calculus.specs.Clauses.{Clause, Instanced, arguments, complement, ground, noLiteral, renameAtom, renameLiteral, sameLiteral, under}
 use Rattle.calculus.specs.Merging.{apart, closeUp, distinct, factored, joins, merge, occursIn, ownPairs, reason, reasonLiterals, resolvent}
-use Rattle.calculus.specs.Truth.{AllHold, LiteralHolds, NoneHolds, Reading, True, withSign}
+use Rattle.calculus.specs.Truth.{AllHold, LiteralHolds, NoneHolds, Reading, SomeHolds, True, TrueExactlyIfSomeHolds, withSign}
 use Rattle.calculus.proofs.Merged.{distinct-in, joins-meet, sameLiteral→eq}
 
 pub sign-clash : (b : Bool) (P : Type 0) → withSign b P → withSign (not b) P → ⊥
@@ -168,3 +168,23 @@ module _ (nums : Numbers) (arities : List ℕ) where
               let k = alike τ l L (sameLiteral→eq (ground τ l) g n) in
               hl L (reasonLiterals-own τ g i (C .literals) lt)
               (literal-same nums arities I ρ l L (k .signs) (k .predicates) (sym (pairUp-eq ρ (arguments L) (arguments l) refl (λ x y q. e x y (ownPairs-in τ g L (C .literals) m n q)))) t)
+
+-- ---- decidable readings
+
+withSign-decided : (b : Bool) {P : Type 0} → Dec P → Dec (withSign b P)
+withSign-decided true d = d
+withSign-decided false (yes p) = no (λ n. n p)
+withSign-decided false (no n) = yes n
+
+module _ (nums : Numbers) (arities : List ℕ) where
+  some-or-none : (I : Reading nums arities) → ((n : ℕ) (ws : List (nums .Number)) → Dec (I n ws)) → (ρ : ℕ → nums .Number) (ls : List Literal) → SomeHolds nums arities I ρ ls ⊎ NoneHolds nums arities I ρ ls
+  some-or-none I d ρ [] = inr (λ l m. absurd (List·Memᴰ·not-nil m))
+  some-or-none I d ρ (l ∷ ls) = go (withSign-decided (l .positive) (d (l .predicate) (take (arityOf arities (l .predicate)) (map ρ (arguments l))))) (some-or-none I d ρ ls)
+    where
+      go : Dec (LiteralHolds nums arities I ρ l) → SomeHolds nums arities I ρ ls ⊎ NoneHolds nums arities I ρ ls → SomeHolds nums arities I ρ (l ∷ ls) ⊎ NoneHolds nums arities I ρ (l ∷ ls)
+      go (yes t) k = inl (l, List·Memᴰ·head refl, t)
+      go (no n) (inl (k, m, t)) = inl (k, List·Memᴰ·tail m, t)
+      go (no n) (inr f) = inr (λ k m t. ⊎-elim (λ e. n (subst (LiteralHolds nums arities I ρ) e t)) (λ m. f k m t) (List·Memᴰ·cases-cons m))
+
+  pub true-exactly-if-some-holds : TrueExactlyIfSomeHolds nums arities
+  true-exactly-if-some-holds I d C = (λ h ρ z a. ⊎-elim (λ s. s) (λ n. absurd (h ρ z a n)) (some-or-none I d ρ (C .literals)), λ h ρ z a n. let (l, m, t) = h ρ z a in n l m t)

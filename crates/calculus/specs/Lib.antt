@@ -3,7 +3,6 @@ pub mod Checks
 pub mod Clauses
 pub mod Trails
 pub mod Merging
-pub mod MergingExamples
 pub mod Class
 pub mod States
 pub mod Admission

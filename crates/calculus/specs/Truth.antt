@@ -1,5 +1,6 @@
 -- What a clause says under a reading of the predicates.
 use mathlib.Core.Path.{_≡_}
+use mathlib.Core.Logic.{_↔_}
 use mathlib.Core.List.{List, map, List·Memᴰ}
 use mathlib.Core.Bool.{Bool, true, false}
 use Prim.Native.Nat.{ℕ, zero}
@@ -35,6 +36,14 @@ module _ (N : Numbers) (arities : List ℕ) where
   -- "It says: for all whole numbers, if every atom holds then some literal does": it can't be that none does.
   abbrev pub True : Reading → Clause → Type 0
   True I C = (ρ : ℕ → N .Number) → ρ zero ≡ N .zeroth → AllHold ρ (C .atoms) → NoneHolds I ρ (C .literals) → ⊥
+
+  abbrev pub SomeHolds : Reading → (ℕ → N .Number) → List Literal → Type 0
+  SomeHolds I ρ ls = (l : Literal) × List·Memᴰ l ls × LiteralHolds I ρ l
+
+  -- Under a reading that decides of any numbers whether a predicate holds this says that some literal does. Proved in proofs/Truths.antt.
+  abbrev pub TrueExactlyIfSomeHolds : Type 1
+  TrueExactlyIfSomeHolds = (I : Reading) → ((n : ℕ) (ws : List (N .Number)) → Dec (I n ws)) → (C : Clause)
+      → True I C ↔ ((ρ : ℕ → N .Number) → ρ zero ≡ N .zeroth → AllHold ρ (C .atoms) → SomeHolds I ρ (C .literals))
 
   -- The clause C is true wherever all of cs are.
   abbrev pub Follows : List Clause → Clause → Type 1

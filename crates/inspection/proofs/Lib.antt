@@ -1,3 +1,2 @@
--- The examples' texts, and what the records of a state say.
-pub mod Example
+-- What the records of a state say.
 pub mod States

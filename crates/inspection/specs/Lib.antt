@@ -1,4 +1,3 @@
--- A state as text for reviewers. To be believed: StateText.antt, line by line, and the statements in Writing.antt; Example.antt shows one state's text.
+-- A state as text for reviewers. To be believed: StateText.antt, line by line, and the statements in Writing.antt.
 pub mod StateText
 pub mod Writing
-pub mod Example

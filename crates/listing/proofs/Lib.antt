@@ -3,5 +3,4 @@ pub mod Lines
 pub mod Once
 pub mod Every
 pub mod NoModel
-pub mod Example
 pub mod Lengths

@@ -70,3 +70,28 @@ indexOf-keepIf f a (suc n) j h = go (λ j h. indexOf-keepIf f (suc a) n j h) (f 
     go ih false j h = ih j h
     go ih true zero h = rw (T→eq (eqb a a) (eqb-refl a)) refl
     go ih true (suc j) h = let lt : j < length R = omega arith in miss (getD R j zero) j (far j lt) (said (eqb (getD R j zero) a)) (ih j lt)
+
+-- .. and the elements' places rise as they do.
+pub indexOf-rises : (f : ℕ → Bool) (a n x y : ℕ) → List·Memᴰ x (keepIf f (upFrom a n)) → List·Memᴰ y (keepIf f (upFrom a n)) → x < y → indexOf x (keepIf f (upFrom a n)) < indexOf y (keepIf f (upFrom a n))
+indexOf-rises f a zero x y m k h = absurd (List·Memᴰ·not-nil m)
+indexOf-rises f a (suc n) x y m k h = go (λ m k. indexOf-rises f (suc a) n x y m k h) (f a) m k
+  where
+    R : List ℕ
+    R = keepIf f (upFrom (suc a) n)
+
+    past : (z : ℕ) → List·Memᴰ z R → indexOf z (a ∷ R) ≡ suc (indexOf z R)
+    past z m = step (said (eqb z a))
+      where
+        step : Said (eqb z a) → indexOf z (a ∷ R) ≡ suc (indexOf z R)
+        step (holds t) = absurd (omega (arith, eqb→eq z a t, upFrom-out (suc a) n z (keepIf-out f (upFrom (suc a) n) m) .0))
+        step (fails t) = rw (F→eq (eqb z a) t)
+
+    both : (List·Memᴰ x R → List·Memᴰ y R → indexOf x R < indexOf y R) → (x ≡ a) ⊎ List·Memᴰ x R → (y ≡ a) ⊎ List·Memᴰ y R → indexOf x (a ∷ R) < indexOf y (a ∷ R)
+    both ih (inl e) (inl q) = absurd (omega arith)
+    both ih (inl e) (inr k) = rw (T→eq (eqb x a) (rw e (eqb-refl a))) (omega (arith, past y k))
+    both ih (inr m) (inl q) = absurd (omega (arith, upFrom-out (suc a) n x (keepIf-out f (upFrom (suc a) n) m) .0))
+    both ih (inr m) (inr k) = omega (arith, past x m, past y k, ih m k)
+
+    go : (List·Memᴰ x R → List·Memᴰ y R → indexOf x R < indexOf y R) → (b : Bool) → List·Memᴰ x (cond b (a ∷ R) R) → List·Memᴰ y (cond b (a ∷ R) R) → indexOf x (cond b (a ∷ R) R) < indexOf y (cond b (a ∷ R) R)
+    go ih true m k = both ih (List·Memᴰ·cases-cons m) (List·Memᴰ·cases-cons k)
+    go ih false m k = ih m k

@@ -181,6 +181,14 @@ without-short i [] = omega arith
 without-short zero (x ∷ l) = omega arith
 without-short (suc i) (x ∷ l) = omega (arith, without-short i l)
 
+pub map-keepIf : {A B : Type 0} (f : A → B) (p : B → Bool) (l : List A) → map f (keepIf (λ a. p (f a)) l) ≡ keepIf p (map f l)
+map-keepIf f p [] = refl
+map-keepIf {A} {B} f p (x ∷ xs) = go (p (f x)) (map-keepIf f p xs)
+  where
+    go : (b : Bool) → map f (keepIf (λ a. p (f a)) xs) ≡ keepIf p (map f xs) → map f (cond b (x ∷ keepIf (λ a. p (f a)) xs) (keepIf (λ a. p (f a)) xs)) ≡ cond b (f x ∷ keepIf p (map f xs)) (keepIf p (map f xs))
+    go true e = ap {B = List B} (λ r. f x ∷ r) e
+    go false e = e
+
 -- ---- the first n of a list, by what stands at the places below n
 
 module _ {A : Type 0} (z : A) where

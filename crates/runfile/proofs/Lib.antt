@@ -1,5 +1,4 @@
 -- Laws of reading and writing, and the proofs of what specs/ states. Nothing here has to be read to believe it.
-pub mod Cases
 pub mod Given
 pub mod Back
 pub mod Times
