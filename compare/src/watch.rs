@@ -13,6 +13,8 @@ use std::thread;
 
 /// Where files are kept
 const KEPT: &str = concat!(env!("CARGO_MANIFEST_DIR"), "/kept");
+/// Where folders of files in hand are
+const WORK: &str = concat!(env!("CARGO_MANIFEST_DIR"), "/target/hands");
 /// The folder of the files in hand; it tells a process that it is the one that works.
 const HANDS: &str = "COMPARE_HANDS";
 /// A file that a process is to compare, and nothing else.
@@ -83,7 +85,7 @@ pub fn watched(tool: &str, work: impl FnOnce() -> io::Result<ExitCode>) -> io::R
         end_with_parent();
         return work();
     }
-    let folder = env::temp_dir().join(format!("{tool}-{}", std::process::id()));
+    let folder = PathBuf::from(WORK).join(format!("{tool}-{}", std::process::id()));
     fs::create_dir_all(&folder)?;
     // What is piped ends when this process does.
     let mut child = again()?.env(HANDS, &folder).stdin(Stdio::piped()).spawn()?;
