@@ -577,6 +577,11 @@ impl Coverage {
         text
     }
 
+    /// How many different things occurred: pairs, file refusals by kind of field, sights.
+    pub fn kinds(&self) -> usize {
+        self.pairs.len() + self.in_files.len() + self.sights.len()
+    }
+
     /// Pairs that occurred though they can't.
     fn unexpected(&self) -> Vec<(u8, u8)> {
         let reachable = |(rule, answer): &(u8, u8)| ANSWERS[*rule as usize - 1].1.contains(answer);

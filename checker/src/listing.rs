@@ -91,7 +91,7 @@ impl Run {
 }
 
 /// "A bad file prints only `bad file`, number, place."
-fn bad_file(bad: BadFile) -> String {
+pub fn bad_file(bad: BadFile) -> String {
     format!("bad file {} {}\n", bad.refusal.number, bad.refusal.place)
 }
 

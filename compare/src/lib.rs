@@ -1,6 +1,9 @@
 //! The proved tool behind safe functions: the exports of the library `judge_export`, which take byte slices and answer by numbers.
 
+pub mod beside;
+pub mod mutate;
 pub mod steps;
+pub mod watch;
 
 extern "C" {
     // A slice is handed over as its start and its length.

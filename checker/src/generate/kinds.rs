@@ -109,6 +109,12 @@ fn temper(random: &mut Random, steps: usize) -> Temper {
     }
 }
 
+/// Up to so many steps from any state of a run, the last of which may be refused.
+pub fn onward(random: &mut Random, state: State, steps: usize) -> Vec<Step> {
+    let temper = temper(random, steps);
+    play(random, &temper, state)
+}
+
 /// A rule with a number that refuses it, mostly.
 fn any_wish(random: &mut Random) -> Option<Wish> {
     let (rule, answers) = random.pick(&ANSWERS);

@@ -13,6 +13,7 @@ mod sets;
 
 use crate::file::write;
 use crate::random::Random;
+pub use kinds::onward;
 pub use sets::random_set;
 
 /// The run file of that seed.

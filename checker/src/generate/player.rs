@@ -72,12 +72,16 @@ pub struct Player<'a> {
     steps: Vec<Step>,
 }
 
-/// Plays from a first state; the steps, the last of which may be refused.
-pub fn play(random: &mut Random, temper: &Temper, first: State) -> Vec<Step> {
-    let mut player =
-        Player { random, temper, state: first, on_trail: Vec::new(), steps: Vec::new() };
+/// Plays from a state; the steps, the last of which may be refused.
+pub fn play(random: &mut Random, temper: &Temper, state: State) -> Vec<Step> {
+    let on_trail = literals_on(&state);
+    let mut player = Player { random, temper, state, on_trail, steps: Vec::new() };
     player.play();
     player.steps
+}
+
+fn literals_on(state: &State) -> Vec<Literal> {
+    state.trail.iter().filter_map(Entry::literal).copied().collect()
 }
 
 impl Player<'_> {
@@ -89,7 +93,7 @@ impl Player<'_> {
             let Some(step) = self.applicable() else { return self.end_stuck() };
             self.state.take(&step).expect("the step is applicable");
             self.steps.push(step);
-            self.on_trail = self.state.trail.iter().filter_map(Entry::literal).copied().collect();
+            self.on_trail = literals_on(&self.state);
         }
     }
 

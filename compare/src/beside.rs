@@ -1,0 +1,155 @@
+//! A file through the proved tool and through the independent checker: what the two tell differently.
+
+use crate::{inspect, judge, ROOM};
+use checker::file::BadFile;
+use checker::listing::{bad_file, final_state, run, Run};
+use checker::rules::ANSWERS;
+use checker::step::RULE_NAMES;
+use std::panic::{catch_unwind, AssertUnwindSafe};
+
+/// What the checker makes of a file
+pub type Made = Result<Run, BadFile>;
+
+/// A buffer that is lent to the proved tool. Between two files all its bytes are the same one.
+pub struct Buffer {
+    bytes: Vec<u8>,
+    byte: u8,
+}
+
+impl Default for Buffer {
+    /// Of a byte that no text has
+    fn default() -> Buffer {
+        Buffer::of(0xA5)
+    }
+}
+
+impl Buffer {
+    pub fn of(byte: u8) -> Buffer {
+        Buffer { bytes: vec![byte; ROOM], byte }
+    }
+
+    /// What the checker makes of a file; or, where the two don't tell the same, the first thing told differently: the listing, the state at
+    /// the end, number and place of the last answer, or the bytes past the text, which are to stay. A checker that panics is a difference too.
+    pub fn compare(&mut self, file: &[u8]) -> Result<Made, String> {
+        let compared = catch_unwind(AssertUnwindSafe(|| self.compare_made(file)));
+        compared.unwrap_or_else(|_| Err("a panic".to_string()))
+    }
+
+    fn compare_made(&mut self, file: &[u8]) -> Result<Made, String> {
+        let made = run(file);
+        let (listing, state) = match &made {
+            Err(bad) => (bad_file(*bad), String::new()),
+            Ok(run) => (run.listing(), final_state(&run.state)),
+        };
+        self.lend("listing", &listing, |out| judge(file, out).map_or(0, <[u8]>::len))?;
+        let mut answer = (0, 0);
+        self.lend("listing and state", &(listing + &state), |out| {
+            inspect(file, out).map_or(0, |told| {
+                answer = (told.number, told.place);
+                told.text.len()
+            })
+        })?;
+        let expected = last_answer(&made);
+        if answer != expected {
+            let (number, place) = expected;
+            return Err(format!("{} at {}, not {number} at {place}", answer.0, answer.1));
+        }
+        Ok(made)
+    }
+
+    /// A call that writes a text to the front of the buffer and tells its length
+    fn lend(
+        &mut self,
+        name: &str,
+        expected: &str,
+        call: impl FnOnce(&mut [u8]) -> usize,
+    ) -> Result<(), String> {
+        let count = call(&mut self.bytes);
+        let (text, rest) = self.bytes.split_at_mut(count);
+        let told = if text != expected.as_bytes() {
+            Err(format!("{name}, {}", first_apart(&String::from_utf8_lossy(text), expected)))
+        } else if !is_all(rest, self.byte) {
+            rest.fill(self.byte);
+            Err(format!("{name}: bytes past the text are not as they were"))
+        } else {
+            Ok(())
+        };
+        text.fill(self.byte);
+        told
+    }
+}
+
+/// The first line in which two texts differ
+fn first_apart(told: &str, expected: &str) -> String {
+    let (mut told, mut expected) = (told.lines(), expected.lines());
+    for number in 1.. {
+        match (told.next(), expected.next()) {
+            (None, None) => break,
+            (one, other) if one == other => {}
+            (one, other) => {
+                let [one, other] = [one, other].map(|line| line.unwrap_or("no line"));
+                return format!("line {number}: {one}, not {other}");
+            }
+        }
+    }
+    "the ends of lines".to_string()
+}
+
+/// Whether bytes are all the same one
+fn is_all(bytes: &[u8], byte: u8) -> bool {
+    let same = [byte; 4096];
+    bytes.chunks(same.len()).all(|chunk| *chunk == same[..chunk.len()])
+}
+
+/// Number and place of the answer to the last step tried, or of a bad file's refusal; 0 and 0 where nothing was refused.
+fn last_answer(made: &Made) -> (u64, u64) {
+    let refusal = match made {
+        Err(bad) => Some(bad.refusal),
+        Ok(run) => run.tried.last().and_then(|tried| tried.answer.err()),
+    };
+    refusal.map_or((0, 0), |refusal| (refusal.number.into(), refusal.place as u64))
+}
+
+/// What files came to: how many, their steps, and which answers each rule was given.
+#[derive(Default)]
+pub struct Seen {
+    pub files: usize,
+    pub steps: usize,
+    /// Of each rule the numbers it was answered by, 0 for accepted, as bits.
+    answers: [u32; RULE_NAMES.len()],
+}
+
+impl Seen {
+    pub fn note(&mut self, made: &Made) {
+        self.files += 1;
+        let Ok(run) = made else { return };
+        self.steps += run.tried.len();
+        for tried in &run.tried {
+            let rule = RULE_NAMES.iter().position(|name| *name == tried.rule_name);
+            let number = tried.answer.map_or_else(|refusal| refusal.number, |_| 0);
+            self.answers[rule.expect("a rule's name")] |= 1 << number;
+        }
+    }
+
+    fn has(&self, rule: u8, answer: u8) -> bool {
+        self.answers[rule as usize - 1] & 1 << answer != 0
+    }
+
+    /// How many pairs of rule and answer were seen, of those that can be
+    pub fn pairs(&self) -> String {
+        let seen: u32 = self.answers.iter().map(|numbers| numbers.count_ones()).sum();
+        let all: usize = ANSWERS.iter().map(|(_, answers)| answers.len()).sum();
+        format!("{seen} of {all} pairs of rule and answer")
+    }
+
+    /// The pairs that can be seen and were not
+    pub fn unseen(&self) -> Vec<String> {
+        let pairs = ANSWERS
+            .iter()
+            .flat_map(|(rule, answers)| answers.iter().map(move |answer| (*rule, *answer)));
+        pairs
+            .filter(|(rule, answer)| !self.has(*rule, *answer))
+            .map(|(rule, answer)| format!("{} {answer}", RULE_NAMES[rule as usize - 1]))
+            .collect()
+    }
+}
