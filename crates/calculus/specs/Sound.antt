@@ -17,7 +17,7 @@ use Rattle.calculus.specs.Trails.{foreground, background, Trail, atomOnT
 use Rattle.calculus.specs.Class.{InClass, Limited}
 use Rattle.calculus.specs.States.{State, Step}
 use Rattle.calculus.specs.Admission.{Admitted}
-use Rattle.calculus.specs.Truth.{Reading, True, Follows}
+use Rattle.calculus.specs.Truth.{Follows, NoModel}
 use Rattle.calculus.specs.Conditions.{Judged}
 use Rattle.calculus.specs.Rules.{Answer}
 use Rattle.calculus.specs.Runs.{Judge, Run, AcceptedRun, Reached, Start, plain, replayed, restarted}
@@ -53,7 +53,7 @@ pub record SoundStart (N : Numbers) (s : State) : Type 1 where
 -- clause true.
 abbrev pub SoundJudge : Numbers → Judge → Type 1
 SoundJudge N J = (s₀ : State) (o : J .Over) (xs : List Step) (K : Instanced) → SoundStart N s₀ → Run J (J .start s₀) xs o → J .state o .conflict ≡ some K → K .clause .literals ≡ []
-    → (I : Reading N (s₀ .arities)) → ((C : Clause) → List·Memᴰ C (s₀ .input) → True N (s₀ .arities) I C) → ⊥
+    → NoModel N (s₀ .arities) (s₀ .input)
 
 module _ (N : Numbers) where
   -- What every state reached has

@@ -48,3 +48,7 @@ module _ (N : Numbers) (arities : List ℕ) where
   -- The clause C is true wherever all of cs are.
   abbrev pub Follows : List Clause → Clause → Type 1
   Follows cs C = (I : Reading) → ((K : Clause) → List·Memᴰ K cs → True I K) → True I C
+
+  -- No reading makes all of cs true.
+  abbrev pub NoModel : List Clause → Type 1
+  NoModel cs = (I : Reading) → ((C : Clause) → List·Memᴰ C cs → True I C) → ⊥

@@ -6,10 +6,10 @@ use lib.ListN.{length, take, drop}
 use Rattle.basis.specs.Numbers.{whole}
 use Rattle.calculus.specs.Rules.{Answer}
 use Rattle.calculus.specs.Runs.{AnswersOnce, Judge, plain}
+use Rattle.calculus.specs.Truth.{NoModel}
 use Rattle.runfile.specs.Readers.{got}
 use Rattle.runfile.specs.File.{File, file}
 use Rattle.text.specs.Text.{bytes}
-use Rattle.listing.specs.Claims.{NoModel}
 use Rattle.listing.specs.Lines.{lastLine}
 use Rattle.listing.specs.Listing.{Printed, Ends, mostListing}
 use Rattle.inspection.specs.StateText.{stateText}
@@ -48,4 +48,4 @@ LeavesOnce = (J : Judge) → AnswersOnce J → (after : Answer → List ℕ) (mo
 -- whole numbers makes its clauses true. Proved in proofs/EndToEnd.antt.
 abbrev pub EndToEnd : Type 1
 EndToEnd = (s d d′ v : List ℕ) (n k p : ℕ) → Lists s d d′ (Bytes n k p) → take n d′ ≡ v ++ bytes "refuted\n"
-    → (F : File) × (file s ≡ got F (length s)) × NoModel whole F
+    → (F : File) × (file s ≡ got F (length s)) × NoModel whole (F .arities) (F .input)

@@ -26,7 +26,7 @@ use Rattle.listing.specs.Listing.{Tried, through, refused, went, badFile
 use Rattle.listing.specs.Claims.{RefutedHasNoModel}
 
 -- The steps tried are a run.
-tried-run : {J : Judge} {o : J .Over} {n : ℕ} {xs : List Step} {w : List ℕ} {e : Reply (J .Over)} → Tried J o n xs w e → (ys : List Step) × Run J o ys (e .state)
+pub tried-run : {J : Judge} {o : J .Over} {n : ℕ} {xs : List Step} {w : List ℕ} {e : Reply (J .Over)} → Tried J o n xs w e → (ys : List Step) × Run J o ys (e .state)
 tried-run through = ([], Run.over refl)
 tried-run {xs = x ∷ xs} (refused a j z) = (x ∷ [], Run.then a j (Run.over refl))
 tried-run {xs = x ∷ xs} (went a j z t) = let (ys, r) = tried-run t in (x ∷ ys, Run.then a j r)

@@ -1,18 +1,17 @@
 -- What holds of listings: every file has exactly one, and `refuted` shows that the clauses have no model. What holds of every judge
 -- is stated of every judge; the rules over the whole numbers are one. Proved in proofs/.
 use mathlib.Core.Path.{_≡_}
-use mathlib.Core.List.{List, _++_, List·Memᴰ}
+use mathlib.Core.List.{List, _++_}
 use Prim.Native.Nat.{ℕ, _<_, _≤_}
 use lib.ListN.{length}
 use Rattle.basis.specs.Limits.{mostEntries}
 use Rattle.basis.specs.Numbers.{Numbers, whole}
 use Rattle.basis.specs.Refusals.{noRoom}
-use Rattle.calculus.specs.Clauses.{Clause}
 use Rattle.calculus.specs.Sound.{SoundJudge}
 use Rattle.calculus.specs.Rules.{Answer, Reply}
 use Rattle.calculus.specs.Runs.{AnswersAll, AnswersOnce, Judge, Reached, plain}
 use Rattle.calculus.specs.States.{Step}
-use Rattle.calculus.specs.Truth.{Reading, True}
+use Rattle.calculus.specs.Truth.{NoModel}
 use Rattle.runfile.specs.Readers.{got}
 use Rattle.runfile.specs.File.{File, file}
 use Rattle.text.specs.Text.{bytes}
@@ -43,14 +42,10 @@ pub record Modest (J : Judge) : Type 0 where
 abbrev pub ListingFits : Type 1
 ListingFits = (J : Judge) → Modest J → (s w : List ℕ) → length s < 18446744073709551616 → Printed J lastLine s w → length w ≤ mostListing
 
--- Of a file's clauses: no reading of the predicates over the numbers N makes them all true.
-abbrev pub NoModel : Numbers → File → Type 1
-NoModel N F = (I : Reading N (F .arities)) → ((C : Clause) → List·Memᴰ C (F .input) → True N (F .arities) I C) → ⊥
-
 -- From bytes: where the judge is sound over N and the last line is `refuted`, the file is a good one and its clauses have no model over N.
 abbrev pub RefutedHasNoModel : Type 1
 RefutedHasNoModel = (N : Numbers) (J : Judge) → SoundJudge N J → (s w v : List ℕ) → Printed J lastLine s w → w ≡ v ++ bytes "refuted\n"
-    → (F : File) × (file s ≡ got F (length s)) × NoModel N F
+    → (F : File) × (file s ≡ got F (length s)) × NoModel N (F .arities) (F .input)
 
 -- ---- of the rules over the whole numbers
 

@@ -31,7 +31,7 @@ use Rattle.calculus.specs.Clauses as calculus
 
 -- ---- what the records of clauses say
 
-some-conflict : (c : Option calculus.Instanced) → stands c ≡ true → c ≡ some (conflictOf c)
+pub some-conflict : (c : Option calculus.Instanced) → stands c ≡ true → c ≡ some (conflictOf c)
 some-conflict none e = absurd (let z : _≡_ {A = ℕ} 0 1 = cc in omega arith)
 some-conflict (some N) e = refl
 

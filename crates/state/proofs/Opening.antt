@@ -2,7 +2,7 @@
 use mathlib.Core.Path.{_∙_, _≡_, ap, refl, sym}
 use mathlib.Core.List.{List, List·Memᴰ·not-nil, [], _++_, append-nil, map}
 use mathlib.Core.Bool.{Bool, cond}
-use Prim.Native.Nat.{ℕ}
+use Prim.Native.Nat.{_≤_, ℕ}
 use native.Mathlib.Decide.{ℕ-discrete}
 use native.Mathlib.Omega.{arith}
 use lib.Dec.{eqb}
@@ -11,16 +11,18 @@ use borrow.Author.Tests.{eq-eqb, ne-eqb}
 use Rattle.admission.specs.Offered as admission
 use Rattle.admission.specs.declared.TableAnswer.{TableAnswer}
 use Rattle.basis.specs.Limits.{mostClauses, mostInput, mostPredicates}
-use Rattle.basis.specs.Refusals.{accepted}
+use Rattle.basis.specs.Refusals.{aboveLimit, accepted, lacksBound}
 use Rattle.lists.specs.Arrays.{exactly}
 use Rattle.lists.proofs.Arrays.{exactly-again, exactly-length}
-use Rattle.calculus.specs.Admission.{Admitted, admissionRefusal, fresh}
+use Rattle.calculus.specs.Admission.{Admitted, Refused, admissionRefusal, fresh}
+use Rattle.calculus.specs.Admitting.{AdmissionJudged, ClauseJudged, above-limit, bad-clause, counts, fine, lacks-bound, occurs-nowhere, out-of-range}
 use Rattle.calculus.specs.Clauses as calculus
-use Rattle.calculus.proofs.Admitting.{admitted-exactly}
+use Rattle.calculus.proofs.Admitting.{admission-refused-rightly, admitted-exactly, clause-refused-rightly}
 use Rattle.clauses.specs.Records.{packed}
 use Rattle.clauses.specs.declared.Clause.{Clause}
 use Rattle.calculus.proofs.Runs.{admitted-reached}
 use Rattle.calculus.specs.Runs.{plain}
+use Rattle.calculus.specs.States.{clauseAt}
 use Rattle.basis.specs.Numbers.{whole}
 use Rattle.state.specs.States.{AdmitKeeps, AdmitMakesStates, IsNew, madeOf, newRun, opened, packedState, packedTable}
 use Rattle.state.specs.declared.Opened.{Opened}
@@ -117,3 +119,25 @@ admit-keeps constants arities cs a e = elim (ℕ-discrete (a .number) accepted) 
   | yes h ↦ (fresh constants arities cs, admit-makes-states constants arities cs a e h .1)
   | no h ↦ (fresh 0 [] [], record { reached = admitted-reached (plain whole) (fresh 0 [] []) none-admitted; is = state-is constants arities cs a e ∙ ap packedState (made-refused (a .number) constants arities cs h) })
 ]
+
+-- A clause is refused by a number from 3 to 6.
+clause-range : {arities : List ℕ} {C : calculus.Clause} {n : ℕ} → ClauseJudged arities C n → ¬ (n ≡ accepted) → (aboveLimit ≤ n) × (n ≤ lacksBound)
+clause-range (above-limit e h) z = (omega arith, omega arith)
+clause-range (out-of-range e h k) z = (omega arith, omega arith)
+clause-range (occurs-nowhere e h k l) z = (omega arith, omega arith)
+clause-range (lacks-bound e h k l m) z = (omega arith, omega arith)
+clause-range (fine e h k) z = absurd (z e)
+
+pub admit-refused : (constants : ℕ) (arities : List ℕ) (cs : List calculus.Clause) (a : Opened) → a ≡ opened constants arities cs → ¬ (a .number ≡ accepted)
+    → (aboveLimit ≤ a .number) × (a .number ≤ lacksBound) × (a .state ≡ packedState (fresh 0 [] []))
+admit-refused constants arities cs a e h =
+    let (least, most) = go (admission-refused-rightly constants arities cs) in
+    (least, most, state-is constants arities cs a e ∙ ap packedState (made-refused (a .number) constants arities cs h))
+  where
+    given : {r : Refused} → admissionRefusal constants arities cs ≡ r → a .number ≡ r .number
+    given q = refusal-is constants arities cs a e ∙ ap (λ (r : Refused). r .number) q
+
+    go : AdmissionJudged constants arities cs (admissionRefusal constants arities cs) → (aboveLimit ≤ a .number) × (a .number ≤ lacksBound)
+    go (counts q k) = (omega (arith, given q), omega (arith, given q))
+    go (bad-clause k q f n z j) = let (l, m) = clause-range (clause-refused-rightly arities (clauseAt cs k)) z in (omega (arith, given q), omega (arith, given q))
+    go (AdmissionJudged.admitted q k) = absurd (h (given q))

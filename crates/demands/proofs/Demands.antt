@@ -1,0 +1,187 @@
+-- The three demands.
+use mathlib.Core.Path.{_∙_, _≡_, ap, refl, subst, sym}
+use mathlib.Core.Logic.{_⊎_, inl, inr}
+use mathlib.Core.List.{List, [], _∷_, _++_, map}
+use mathlib.Core.Option.{Option, none, some}
+use mathlib.Core.Bool.{true}
+use Prim.Native.Nat.{ℕ, _≤_, _<_}
+use native.Mathlib.Decide.{ℕ-discrete, decLt}
+use native.Mathlib.Omega.{arith}
+use lib.ListN.{length, take, drop}
+use lib.Seq.{take-append-seam}
+use Rattle.basis.specs.Numbers.{whole}
+use Rattle.basis.specs.Refusals.{accepted, noRoom}
+use Rattle.calculus.specs.Admission.{fresh}
+use Rattle.calculus.specs.Clauses as calculus
+use Rattle.calculus.specs.Rules.{Answer}
+use Rattle.calculus.specs.Runs.{Run, plain}
+use Rattle.calculus.specs.States as states
+use Rattle.calculus.proofs.Answers as answers
+use Rattle.calculus.proofs.Answers.{accepted-exactly-if-allowed, number-in-table}
+use Rattle.calculus.proofs.Runs.{admitted-starts}
+use Rattle.calculus.proofs.Sound.{admitted-sound, sound-judge}
+use Rattle.runfile.specs.Claims.{Outcome, opened}
+use Rattle.runfile.specs.File.{File, file}
+use Rattle.runfile.specs.Readers.{Got, got, bad}
+use Rattle.runfile.proofs.Given.{every-file}
+use Rattle.rules.proofs.Runs.{some-conflict}
+use Rattle.listing.specs.Lines.{badLine, lastLine}
+use Rattle.listing.specs.Listing.{Ends, Listing, Printed, Tried, badFile, goodFile, mostListing, refused, through, went, withFile, withStep}
+use Rattle.listing.proofs.Every.{answers-all, every-file-listed}
+use Rattle.listing.proofs.NoModel.{tried-run}
+use Rattle.judging.specs.Judging.{Lists}
+use Rattle.judging.proofs.EndToEnd.{end-to-end}
+use Rattle.judging.proofs.Judging.{leaves-once}
+use Rattle.judging.specs.declared.Written.{Written}
+use Rattle.judging.specs.declared.Written.the-variants.{Bytes, Short}
+use Rattle.asking.specs.Steps.{stepOf}
+use Rattle.asking.specs.declared.Step.{Step}
+use Rattle.state.specs.States as state
+use Rattle.state.specs.States.{Answers, Made, StateOf, packedState}
+use Rattle.state.specs.Runs.{CodeRun}
+use Rattle.state.proofs.Opening.{admit-keeps, admit-makes-states, admit-refused}
+use Rattle.state.proofs.Replaying.{code-replays}
+use Rattle.state.proofs.Runs.{answer-unique, code-runs-are-runs, every-step-answered, step-keeps}
+use Rattle.state.specs.declared.Answered.{Answered}
+use Rattle.state.specs.declared.Opened.{Opened}
+use Rattle.state.specs.declared.State.{State}
+use Rattle.demands.specs.Demands as demands
+use Rattle.demands.specs.Demands.{AdmitAnswered, RightAnswer, Demand1, Demand2, Demand3, FileAnswered, FileRight, Refutes, Settled, StepAnswered}
+
+-- ---- 1: files
+
+-- What is printed of a file, and how judging it ends
+printed-ends : (s : List ℕ) → (w : List ℕ) × (k : ℕ) × (p : ℕ) × Listing s w × Ends (plain whole) s k p
+printed-ends s = let (w, q) = every-file-listed (plain whole) answers-all lastLine s in go q
+  where
+    go : {w : List ℕ} → Listing s w → (w : List ℕ) × (k : ℕ) × (p : ℕ) × Listing s w × Ends (plain whole) s k p
+    go (badFile n p f) = (_, n, p, badFile n p f, withFile n p f)
+    go (goodFile F next e f t) = (_, e .number, e .place, goodFile F next e f t, withStep F next e f t)
+
+file-ends : (s d : List ℕ) → Settled (λ (a : List ℕ × Written). Lists s d (a .0) (a .1))
+file-ends s d = elim (decLt (length d) mostListing) [
+  | yes h ↦ record { answer = (d, Short); promised = (h, refl); only = λ a q. only a (d, Short) q (h, refl) }
+  | no h ↦
+    let (w, k, p, listing, ends) = printed-ends s in
+    let here : Lists s d (w ++ drop (length w) d) (Bytes (length w) k p) = (omega arith, ends, (w, listing, refl, refl)) in
+    record { answer = (w ++ drop (length w) d, Bytes (length w) k p); promised = here; only = λ a q. only a (w ++ drop (length w) d, Bytes (length w) k p) q here }
+]
+  where
+    only : (a b : List ℕ × Written) → Lists s d (a .0) (a .1) → Lists s d (b .0) (b .1) → a ≡ b
+    only a b q r = let (same, left) = leaves-once (plain whole) (answers.answer-unique whole) lastLine mostListing s d (a .0) (b .0) (a .1) (b .1) q r in λ i. (left i, same i)
+
+-- The last answer of steps tried is that of a step, or none was refused.
+tried-in-table : (xs : List states.Step) {s : states.State} {n : ℕ} {w : List ℕ} {e : Answer} → Tried (plain whole) s n xs w e → e .number ≤ noRoom
+tried-in-table [] through = omega arith
+tried-in-table (x ∷ xs) {s} (refused a j z) = number-in-table whole s x a j
+tried-in-table (x ∷ xs) (went a j z t) = tried-in-table xs t
+
+-- What was written is the text.
+written-text : {n : ℕ} {d d′ w : List ℕ} → n ≡ length w → d′ ≡ w ++ drop n d → take n d′ ≡ w
+written-text {n} {d} {d′} {w} count left = ap (take n) left ∙ ap (λ (i : ℕ). take i (w ++ drop n d)) count ∙ take-append-seam w (drop n d)
+
+file-right : (s d d′ : List ℕ) (r : Written) → Lists s d d′ r → FileRight s d d′ r
+file-right s d d′ Short (h, e) = (h, e)
+file-right s d d′ (Bytes n k p) (room, ends, (w, listing, count, left)) = go ends (file s) refl (every-file s)
+  where
+    text : take n d′ ≡ w
+    text = written-text count left
+
+    bad-line : {w : List ℕ} → Listing s w → {number place : ℕ} → file s ≡ bad number place → w ≡ badLine number place
+    bad-line (badFile m q f) g = let m-is : m ≡ _ = cc in let q-is : q ≡ _ = cc in λ i. badLine (m-is i) (q-is i)
+    bad-line (goodFile F next e f t) g = absurd (let z : _≡_ {A = ℕ} 0 1 = cc in omega arith)
+
+    go : Ends (plain whole) s k p → (g : Got File) → file s ≡ g → Outcome s g → FileAnswered s (take n d′) k p
+    go (withFile number place f) (got F next) g o = absurd (let z : _≡_ {A = ℕ} 0 1 = cc in omega arith)
+    go (withFile number place f) (bad m q) g o =
+        let m-is : m ≡ number = cc in
+        let q-is : q ≡ place = cc in
+        FileAnswered.refused f (rw (sym m-is) (o .least)) (rw (sym m-is) (o .most)) (rw (sym q-is) (o .in-file)) (text ∙ bad-line listing f)
+    go (withStep F next e f t) (bad m q) g o = absurd (let z : _≡_ {A = ℕ} 0 1 = cc in omega arith)
+    go (withStep F next e f t) (got G m) g o = FileAnswered.listed G (g ∙ ap (got G) (o .1)) (subst (Listing s) (sym text) listing) (tried-in-table (F .steps) t)
+
+-- ---- 1: steps
+
+step-right : (r : State) (x : Step) (a : Answered) → Made r → Answers r x a → StepAnswered r a
+step-right r x a (s, S) h =
+    let (b, j, e) = h s S in
+    let number-is = ap (λ (q : Answered). q .number) e in
+    record {
+      in-table = rw number-is (number-in-table whole s (stepOf x) b j);
+      unchanged = λ z. ap (λ (q : Answered). q .state) e ∙ ap packedState (j .handed-back (λ q. z (number-is ∙ q))) ∙ sym (S .is);
+      made = step-keeps r x a (s, S) h;
+    }
+
+admit-right : (constants : ℕ) (arities : List ℕ) (cs : List calculus.Clause) (a : Opened) → a ≡ state.opened constants arities cs → AdmitAnswered constants arities cs a × Made (a .state)
+admit-right constants arities cs a e = (
+  elim (ℕ-discrete (a .number) accepted) [
+    | yes h ↦ let (k, S) = admit-makes-states constants arities cs a e h in AdmitAnswered.made h k S
+    | no h ↦ let (least, most, is) = admit-refused constants arities cs a e h in AdmitAnswered.refused least most is
+  ],
+  admit-keeps constants arities cs a e,
+)
+
+pub demand-1 : Demand1
+demand-1 = record {
+  file-ends = file-ends;
+  file-right = file-right;
+  admit-right = admit-right;
+  step-ends = λ r x m. let (a, h) = every-step-answered r x m in record { answer = a; promised = h; only = λ b k. answer-unique r x b a m k h };
+  step-right = step-right;
+}
+
+-- ---- 2
+
+by-the-rule : (r : State) (s : states.State) (x : Step) (a : Answered) → StateOf r s → Answers r x a → RightAnswer s (stepOf x) a
+by-the-rule r s x a S h =
+    let (b, j, e) = h s S in
+    let number-is : a .number ≡ b .number = ap (λ (q : Answered). q .number) e in
+    let place-is : a .place ≡ b .place = ap (λ (q : Answered). q .place) e in
+    let exactly = accepted-exactly-if-allowed whole s (stepOf x) b j in
+    record {
+      acceptance = (λ z. exactly .0 (sym number-is ∙ z), λ k. number-is ∙ exactly .1 k);
+      next-state = λ z. ap (λ (q : Answered). q .state) e ∙ ap packedState (j .next-state (sym number-is ∙ z));
+      number = rw number-is (j .first-lacking);
+      named = λ z. rw place-is (j .named (sym number-is ∙ z));
+      no-place = λ z. place-is ∙ j .no-place (λ q. z (number-is ∙ q));
+    }
+
+-- A run of the code from what `admit` accepted
+module _ (constants : ℕ) (arities : List ℕ) (cs : List calculus.Clause) (a : Opened) (e : a ≡ state.opened constants arities cs) (h : a .number ≡ accepted) (xs : List Step) (r : State) (run : CodeRun (a .state) xs r) where
+  from : states.State
+  from = fresh constants arities cs
+
+  ran : (s : states.State) × Run (plain whole) from (map stepOf xs) s × (r ≡ packedState s)
+  ran =
+      let (k, S) = admit-makes-states constants arities cs a e h in
+      code-runs-are-runs from r xs (S .reached) (subst (λ (q : State). CodeRun q xs r) (S .is) run)
+
+no-literals : {A : Type 0} (l : List A) → length l ≡ 0 → l ≡ []
+no-literals [] e = refl
+no-literals (x ∷ l) e = absurd (omega arith)
+
+pub demand-2 : Demand2
+demand-2 = record {
+  by-the-rule = by-the-rule;
+  sound = λ constants arities cs a e h xs r run t.
+      let (k, S) = admit-makes-states constants arities cs a e h in
+      let (s, steps, is) = ran constants arities cs a e h xs r run in
+      let c = some-conflict (s .conflict) (sym (ap (λ (q : State). q .run .stands) is) ∙ t .stands) in
+      let z = no-literals (states.conflictOf (s .conflict) .clause .literals) (sym (ap (λ (q : State). q .run .conflict .clause .literalcount) is) ∙ t .no-literals) in
+      sound-judge whole (fresh constants arities cs) s (map stepOf xs) (states.conflictOf (s .conflict)) (admitted-sound whole (fresh constants arities cs) k) steps c z;
+  file-sound = end-to-end;
+}
+
+-- ---- 3
+
+pub demand-3 : Demand3
+demand-3 = record {
+  replayed = λ constants arities cs a e h xs r run free.
+      let (k, S) = admit-makes-states constants arities cs a e h in
+      let (s, steps, is) = ran constants arities cs a e h xs r run in
+      code-replays r (s, record { reached = record { first = fresh constants arities cs; steps = map stepOf xs; start = admitted-starts (fresh constants arities cs) k; run = steps }; is = is }) free;
+  file-replayed = λ s F n w e f t calm.
+      let (sayable, whole-file) = subst (Outcome s) f (every-file s) in
+      let (ys, run) = tried-run t in
+      code-replays (packedState (e .state)) (e .state, record { reached = record { first = opened F; steps = ys; start = admitted-starts (opened F) (sayable .admitted); run = run }; is = refl }) (ap states.stands calm);
+}

@@ -1,0 +1,1 @@
+// No code: the user's demands as statements of the code.
