@@ -1,10 +1,8 @@
 -- The three demands.
 use mathlib.Core.Path.{_∙_, _≡_, ap, refl, subst, sym}
-use mathlib.Core.Logic.{_⊎_, inl, inr}
 use mathlib.Core.List.{List, [], _∷_, _++_, map}
-use mathlib.Core.Option.{Option, none, some}
-use mathlib.Core.Bool.{true}
-use Prim.Native.Nat.{ℕ, _≤_, _<_}
+use mathlib.Core.Option.{none}
+use Prim.Native.Nat.{ℕ, _≤_}
 use native.Mathlib.Decide.{ℕ-discrete, decLt}
 use native.Mathlib.Omega.{arith}
 use lib.ListN.{length, take, drop}
@@ -26,7 +24,7 @@ use Rattle.runfile.specs.Readers.{Got, got, bad}
 use Rattle.runfile.proofs.Given.{every-file}
 use Rattle.rules.proofs.Runs.{some-conflict}
 use Rattle.listing.specs.Lines.{badLine, lastLine}
-use Rattle.listing.specs.Listing.{Ends, Listing, Printed, Tried, badFile, goodFile, mostListing, refused, through, went, withFile, withStep}
+use Rattle.listing.specs.Listing.{Ends, Listing, Tried, badFile, goodFile, mostListing, refused, through, went, withFile, withStep}
 use Rattle.listing.proofs.Every.{answers-all, every-file-listed}
 use Rattle.listing.proofs.NoModel.{tried-run}
 use Rattle.judging.specs.Judging.{Lists}
@@ -46,7 +44,7 @@ use Rattle.state.specs.declared.Answered.{Answered}
 use Rattle.state.specs.declared.Opened.{Opened}
 use Rattle.state.specs.declared.State.{State}
 use Rattle.demands.specs.Demands as demands
-use Rattle.demands.specs.Demands.{AdmitAnswered, RightAnswer, Demand1, Demand2, Demand3, FileAnswered, FileRight, Refutes, Settled, StepAnswered}
+use Rattle.demands.specs.Demands.{AdmitAnswered, RightAnswer, Demand1, Demand2, Demand3, FileAnswered, FileRight, Settled, StepAnswered}
 
 -- ---- 1: files
 
@@ -77,26 +75,26 @@ tried-in-table (x ∷ xs) {s} (refused a j z) = number-in-table whole s x a j
 tried-in-table (x ∷ xs) (went a j z t) = tried-in-table xs t
 
 -- What was written is the text.
-written-text : {n : ℕ} {d d′ w : List ℕ} → n ≡ length w → d′ ≡ w ++ drop n d → take n d′ ≡ w
-written-text {n} {d} {d′} {w} count left = ap (take n) left ∙ ap (λ (i : ℕ). take i (w ++ drop n d)) count ∙ take-append-seam w (drop n d)
+written-text : {n : ℕ} (d : List ℕ) {d′ w : List ℕ} → n ≡ length w → d′ ≡ w ++ drop n d → take n d′ ≡ w
+written-text {n} d {d′} {w} count left = ap (take n) left ∙ ap (λ (i : ℕ). take i (w ++ drop n d)) count ∙ take-append-seam w (drop n d)
 
 file-right : (s d d′ : List ℕ) (r : Written) → Lists s d d′ r → FileRight s d d′ r
 file-right s d d′ Short (h, e) = (h, e)
 file-right s d d′ (Bytes n k p) (room, ends, (w, listing, count, left)) = go ends (file s) refl (every-file s)
   where
     text : take n d′ ≡ w
-    text = written-text count left
+    text = written-text d count left
 
-    bad-line : {w : List ℕ} → Listing s w → {number place : ℕ} → file s ≡ bad number place → w ≡ badLine number place
-    bad-line (badFile m q f) g = let m-is : m ≡ _ = cc in let q-is : q ≡ _ = cc in λ i. badLine (m-is i) (q-is i)
-    bad-line (goodFile F next e f t) g = absurd (let z : _≡_ {A = ℕ} 0 1 = cc in omega arith)
+    bad-line : {w : List ℕ} → Listing s w → (number place : ℕ) → file s ≡ bad number place → w ≡ badLine number place
+    bad-line (badFile m q f) number place g = let m-is : m ≡ number = cc in let q-is : q ≡ place = cc in λ i. badLine (m-is i) (q-is i)
+    bad-line (goodFile F next e f t) number place g = absurd (let z : _≡_ {A = ℕ} 0 1 = cc in omega arith)
 
-    go : Ends (plain whole) s k p → (g : Got File) → file s ≡ g → Outcome s g → FileAnswered s (take n d′) k p
+    go : {k p : ℕ} → Ends (plain whole) s k p → (g : Got File) → file s ≡ g → Outcome s g → FileAnswered s (take n d′) k p
     go (withFile number place f) (got F next) g o = absurd (let z : _≡_ {A = ℕ} 0 1 = cc in omega arith)
     go (withFile number place f) (bad m q) g o =
         let m-is : m ≡ number = cc in
         let q-is : q ≡ place = cc in
-        FileAnswered.refused f (rw (sym m-is) (o .least)) (rw (sym m-is) (o .most)) (rw (sym q-is) (o .in-file)) (text ∙ bad-line listing f)
+        FileAnswered.refused f (rw (sym m-is) (o .least)) (rw (sym m-is) (o .most)) (rw (sym q-is) (o .in-file)) (text ∙ bad-line listing number place f)
     go (withStep F next e f t) (bad m q) g o = absurd (let z : _≡_ {A = ℕ} 0 1 = cc in omega arith)
     go (withStep F next e f t) (got G m) g o = FileAnswered.listed G (g ∙ ap (got G) (o .1)) (subst (Listing s) (sym text) listing) (tried-in-table (F .steps) t)
 
@@ -148,7 +146,7 @@ by-the-rule r s x a S h =
 
 -- A run of the code from what `admit` accepted
 module _ (constants : ℕ) (arities : List ℕ) (cs : List calculus.Clause) (a : Opened) (e : a ≡ state.opened constants arities cs) (h : a .number ≡ accepted) (xs : List Step) (r : State) (run : CodeRun (a .state) xs r) where
-  from : states.State
+  abbrev from : states.State
   from = fresh constants arities cs
 
   ran : (s : states.State) × Run (plain whole) from (map stepOf xs) s × (r ≡ packedState s)

@@ -3,9 +3,6 @@ use mathlib.Core.Path.{_≡_, refl, subst, sym}
 use mathlib.Core.Logic.{_↔_}
 use mathlib.Core.List.{List, [], _∷_}
 use mathlib.Core.Option.{Option, none, some}
-use mathlib.Core.Bool.{Bool, true, false}
-use Prim.Native.Nat.{ℕ}
-use native.Mathlib.Omega.{arith}
 use lib.Dec.{T}
 use lib.ListN.{length}
 use Rattle.basis.specs.Numbers.{whole}
@@ -27,18 +24,18 @@ use Rattle.state.proofs.Runs.{answers-so}
 use Rattle.state.specs.States.{Answers, packedAnswer, packedState}
 use Rattle.demands.specs.Tools.{AsTheCode, RightToolExists}
 
-right : State → Step → Answer
+abbrev right : State → Step → Answer
 right s x = answer (decided s x .0) s x
 
 right-judged : (s : State) (x : Step) → Judged whole s x (right s x)
 right-judged s x = judged-by whole (decided s x .0) s x (decided s x .1)
 
 -- The state after steps, the last of them first
-after : State → List Step → State
+abbrev after : State → List Step → State
 after s₀ [] = s₀
 after s₀ (x ∷ before) = right (after s₀ before) x .state
 
-tool : Tool
+abbrev tool : Tool
 tool s₀ before x = let a = right (after s₀ before) x in record { answer = a; entries = length (a .state .trail); level = a .state .level; refuted = isRefutation (a .state .conflict) }
 
 reached-after : (s₀ : State) (before : List Step) → reached tool s₀ before ≡ after s₀ before

@@ -1,7 +1,7 @@
 -- The record of a whole state, what admission makes and what a step answers.
 use mathlib.Core.Path.{_≡_}
-use mathlib.Core.List.{List, [], _∷_, map, List·Memᴰ}
-use mathlib.Core.Bool.{cond, true, false}
+use mathlib.Core.List.{List, [], map}
+use mathlib.Core.Bool.{cond, false}
 use Prim.Native.Nat.{ℕ, _-_, _≤_}
 use lib.Dec.{eqb, ltb}
 use lib.ListN.{length, set}
@@ -18,7 +18,6 @@ use Rattle.calculus.specs.Runs as runs
 use Rattle.calculus.specs.Runs.{Reached, plain}
 use Rattle.calculus.specs.States as states
 use Rattle.calculus.specs.States.{clauses}
-use Rattle.calculus.specs.Truth.{Reading, True}
 use Rattle.clauses.specs.Records.{packed, packedInstanced}
 use Rattle.clauses.specs.declared.Clause.{Clause}
 use Rattle.rules.specs.Records.{packedRun}
