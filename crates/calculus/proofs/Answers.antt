@@ -153,7 +153,7 @@ not-false-once t τ MustBe ls p q a b =
     ]
   where
     at-least : (p q : ℕ) → ¬ (p < q) → q ≤ p
-    at-least p q h = elim (ℕ-discrete (q - p) 0) [ | yes e ↦ omega arith | no e ↦ absurd (h (omega arith)) ]
+    at-least p q h = elim (ℕ-discrete (q - p) 0) [ yes e ↦ omega arith | no e ↦ absurd (h (omega arith)) ]
 
 named-once : (s : State) (x : Step) (p q : ℕ) → NamesNotFalse s x p → NamesNotFalse s x q → p ≡ q
 named-once s (Propagate c l τ) p q a b = not-false-once (s .trail) τ _ (clauseAt (clauses s) c .literals) p q a b

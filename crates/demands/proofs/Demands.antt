@@ -60,9 +60,9 @@ file-ends : (s d : List ℕ) → Settled (λ (a : List ℕ × Written). Lists s 
 file-ends s d = elim (decLt (length d) mostListing) [
   | yes h ↦ record { answer = (d, Short); promised = (h, refl); only = λ a q. only a (d, Short) q (h, refl) }
   | no h ↦
-    let (w, k, p, listing, ends) = printed-ends s in
-    let here : Lists s d (w ++ drop (length w) d) (Bytes (length w) k p) = (omega arith, ends, (w, listing, refl, refl)) in
-    record { answer = (w ++ drop (length w) d, Bytes (length w) k p); promised = here; only = λ a q. only a (w ++ drop (length w) d, Bytes (length w) k p) q here }
+      let (w, k, p, listing, ends) = printed-ends s in
+      let here : Lists s d (w ++ drop (length w) d) (Bytes (length w) k p) = (omega arith, ends, (w, listing, refl, refl)) in
+      record { answer = (w ++ drop (length w) d, Bytes (length w) k p); promised = here; only = λ a q. only a (w ++ drop (length w) d, Bytes (length w) k p) q here }
 ]
   where
     only : (a b : List ℕ × Written) → Lists s d (a .0) (a .1) → Lists s d (b .0) (b .1) → a ≡ b
