@@ -3,3 +3,4 @@ pub mod Cases
 pub mod Given
 pub mod Back
 pub mod Times
+pub mod Short
