@@ -4,3 +4,4 @@ pub mod Given
 pub mod Back
 pub mod Times
 pub mod Short
+pub mod Longest

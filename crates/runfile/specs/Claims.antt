@@ -1,5 +1,5 @@
 -- What every file gives, that a file that is written is read back, and how much of a file has to be read. Proved in proofs/Given.antt,
--- proofs/Back.antt and proofs/Short.antt.
+-- proofs/Back.antt, proofs/Short.antt and proofs/Longest.antt.
 use mathlib.Core.Path.{_≡_}
 use mathlib.Core.List.{List, List·Memᴰ}
 use Prim.Native.Nat.{ℕ, _+_, _*_, _≤_, _<_}
@@ -75,10 +75,18 @@ MostFileCounted = mostFile ≡ 42994
 abbrev pub GoodFilesShort : Type 0
 GoodFilesShort = (s : List ℕ) (F : File) (next : ℕ) → file s ≡ got F next → length s ≤ mostFile
 
+-- .. and some good file has all 42,994.
+abbrev pub LongestFile : Type 0
+LongestFile = (s : List ℕ) × (F : File) × (file s ≡ got F mostFile)
+
 -- A file, good or bad, is read as its first bytes are, where these are more than a good file can have: they say the same, or are refused by the
--- same number at the same place. Of `mostFile` bytes that would not hold: they may be a good file, and the bytes after them its surplus.
+-- same number at the same place ..
 abbrev pub FirstBytesTell : Type 0
 FirstBytesTell = (N : ℕ) → mostFile < N → (s : List ℕ) → file (take N s) ≡ file s
+
+-- .. but not as its first `mostFile` bytes: they may be a good file, and those after them its surplus.
+abbrev pub FewerDoNot : Type 0
+FewerDoNot = ((s : List ℕ) → file (take mostFile s) ≡ file s) → ⊥
 
 -- "The program reads no more" than 65,535 bytes: the constant `MOST_READ` of the programs.
 abbrev pub mostRead : ℕ
