@@ -10,9 +10,9 @@ use Rattle.lists.proofs.Walks.{take-more}
 use Rattle.clauses.specs.Counts.{Counts}
 use Rattle.clauses.proofs.Counts.{counted-length}
 use Rattle.text.specs.Text.{Wrote}
-use Rattle.text.proofs.Text.{and-then, as-text}
+use Rattle.text.proofs.Text.{and-then, as-text, wrote-once}
 use Rattle.clausetext.specs.ClauseText.{inTurn, parting}
-use Rattle.clausetext.specs.Room.{Put}
+use Rattle.clausetext.specs.Room.{Put, PutOnce}
 
 module _ {A : Type 0} (f : ℕ → A → List ℕ) where
   turn-last : (n : ℕ) (xs : List A) (x : A) → inTurn n f (xs ++ (x ∷ [])) ≡ inTurn n f xs ++ f (n + length xs) x
@@ -67,3 +67,8 @@ module _ {A : Type 0} {n most j i r : ℕ} {f : ℕ → A → List ℕ} {xs : Li
 
     pub turned-most : Put (m * most) d i (inTurn n f (take count xs)) d₁ r
     turned-most = record { wrote = as-text text-is (t .wrote); room = omega (arith, mul-le-mul-right {m = j} {n = m} most (omega (arith, C .few))) }
+
+-- ---- what a writer leaves is unique
+
+pub put-once : PutOnce
+put-once most d i w d₁ d₂ r₁ r₂ a b = wrote-once d i w d₁ d₂ r₁ r₂ (a .wrote) (b .wrote)

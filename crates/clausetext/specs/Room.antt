@@ -1,6 +1,7 @@
 -- The most bytes that each text has, from the paper's limits, and what a writer promises.
-use Prim.Native.Nat.{ℕ, _+_, _*_, _≤_}
+use mathlib.Core.Path.{_≡_}
 use mathlib.Core.List.{List}
+use Prim.Native.Nat.{ℕ, _+_, _*_, _≤_}
 use Rattle.basis.specs.Limits.{mostAtoms, mostLiterals, mostArguments}
 use Rattle.text.specs.Text.{Wrote}
 
@@ -32,3 +33,7 @@ mostClauseText = mostNumber + 2 + mostAtoms * (1 + mostAtom) + 1 + mostLiterals 
 pub record Put (most : ℕ) (d : List ℕ) (i : ℕ) (w d′ : List ℕ) (r : ℕ) : Type 0 where
   pub wrote : Wrote d i w d′ r
   pub room : r ≤ i + most
+
+-- The buffer and the place are unique. Proved in proofs/Turns.antt.
+abbrev pub PutOnce : Type 0
+PutOnce = (most : ℕ) (d : List ℕ) (i : ℕ) (w d₁ d₂ : List ℕ) (r₁ r₂ : ℕ) → Put most d i w d₁ r₁ → Put most d i w d₂ r₂ → (d₁ ≡ d₂) × (r₁ ≡ r₂)

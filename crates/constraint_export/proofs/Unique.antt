@@ -9,11 +9,11 @@ use Rattle.basis.specs.declared.Atom.{Atom}
 use Rattle.basis.specs.Atoms.{noAtom}
 use Rattle.constraint.specs.Test.{Says}
 use Rattle.constraint.proofs.Unique as constraint
-use Rattle.constraint_export.specs.Export.{Gathered, code, Unique}
+use Rattle.constraint_export.specs.Export.{Gathered, code, TellsOnce}
 
 same-atoms : {places : List ℕ} {bounds : List ℤ} {a b : List Atom} → Gathered places bounds a → Gathered places bounds b → a ≡ b
 same-atoms {a = a} {b = b} G H = ext-getD noAtom a b (G .long ∙ sym (H .long)) (λ k h. G .each k (omega (arith, G .long)) ∙ sym (H .each k (omega (arith, G .long))))
 
-pub unique : Unique
-unique constants count places bounds r s R S =
+pub tells-once : TellsOnce
+tells-once constants count places bounds r s R S =
     R .coded ∙ ap code (constraint.unique constants count (S .atoms) (R .answer) (S .answer) (subst (λ (l : List Atom). Says constants count l (R .answer)) (same-atoms (R .gathered) (S .gathered)) (R .says)) (S .says)) ∙ sym (S .coded)

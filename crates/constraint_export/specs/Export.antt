@@ -31,5 +31,5 @@ pub record Tells (constants count : ℕ) (places : List ℕ) (bounds : List ℤ)
   pub coded : r ≡ code answer
 
 -- One number: proved in proofs/Unique.antt.
-abbrev pub Unique : Type 0
-Unique = (constants count : ℕ) (places : List ℕ) (bounds : List ℤ) (r s : ℕ) → Tells constants count places bounds r → Tells constants count places bounds s → r ≡ s
+abbrev pub TellsOnce : Type 0
+TellsOnce = (constants count : ℕ) (places : List ℕ) (bounds : List ℤ) (r s : ℕ) → Tells constants count places bounds r → Tells constants count places bounds s → r ≡ s

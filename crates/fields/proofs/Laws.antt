@@ -11,7 +11,7 @@ use lib.Seq.{length-take-le, take-suc-set}
 use Rattle.basis.specs.Refusals.{accepted}
 use Rattle.lists.proofs.Arrays.{exactly-length, exactly-none, set-exactly}
 use Rattle.lists.specs.Arrays.{exactly}
-use Rattle.fields.specs.Views.{Filled, Fills, Told, after, given, reached, refusedFrom, viewed}
+use Rattle.fields.specs.Views.{Filled, Fills, Told, ToldOnce, ViewedOnce, after, given, reached, refusedFrom, viewed}
 use Rattle.fields.specs.declared.Cursor.{Cursor}
 use Rattle.calculus.specs.Checks.{Check, firstRefusal}
 use Rattle.runfile.specs.Readers.{Got, Reader, _judged_, _then_, bad, give, got, onward, times}
@@ -73,6 +73,13 @@ told-refused {A} {d} {c} e = told-of e (blank-beside d c)
 pub blank-through : {A B : Type 0} (c : Cursor) (d x : A) (b y : B) → Blanked d c x → (x ≡ d → y ≡ b) → Blanked b c y
 blank-through (C.At j) d x b y h k = tt
 blank-through (C.Refused n p) d x b y h k = k h
+
+pub told-once : ToldOnce
+told-once A d c e x y g a b = (a .cursor ∙ sym (b .cursor), a .value ∙ sym (b .value))
+
+-- A value that is known may be taken for the blank.
+pub viewed-once : ViewedOnce
+viewed-once A x c e g p q = told-refused p .cursor ∙ sym (told-refused q .cursor)
 
 -- ---- one law for each operation
 

@@ -34,6 +34,14 @@ pub record Told {A : Type 0} (d : A) (c : Cursor) (x : A) (g : Got A) : Type 0 w
   pub cursor : c ≡ reached g
   pub value : x ≡ given d g
 
+-- Both are unique. Proved in proofs/Laws.antt.
+abbrev pub ToldOnce : Type 1
+ToldOnce = (A : Type 0) (d : A) (c e : Cursor) (x y : A) (g : Got A) → Told d c x g → Told d e y g → (c ≡ e) × (x ≡ y)
+
+-- So is a cursor beside a value that is known. Proved in proofs/Laws.antt.
+abbrev pub ViewedOnce : Type 1
+ViewedOnce = (A : Type 0) (x : A) (c e : Cursor) (g : Got A) → viewed c x ≡ g → viewed e x ≡ g → c ≡ e
+
 -- What begins at the first cursor and ends at the second, refused by n; an earlier refusal stays.
 abbrev pub refusedFrom : Cursor → Cursor → ℕ → Cursor
 refusedFrom (C.At i) (C.At j) n = C.Refused n i

@@ -5,7 +5,7 @@ use libc::STDIN_FILENO;
 use libc::STDOUT_FILENO;
 
 // "A valid file is below 65,536 bytes; the program reads no more."
-const MOST_FILE: usize = 65535;
+const MOST_READ: usize = 65535;
 
 // The listing and the final state of a file, printed; the buffer is long enough for all.
 fn print_inspection(file: &[u8]) {
@@ -24,7 +24,7 @@ fn print_inspection(file: &[u8]) {
 }
 
 fn main() {
-    let mut file = [0u8; MOST_FILE];
+    let mut file = [0u8; MOST_READ];
     let n = io::read_full(STDIN_FILENO, &mut file);
     print_inspection(&file[..n]);
 }

@@ -13,7 +13,7 @@ use Rattle.lists.proofs.Arrays.{set-exactly, take-exactly}
 use Rattle.lists.proofs.Walks.{take-more, without-more}
 use Rattle.lists.specs.Arrays.{exactly}
 use Rattle.lists.specs.Lists.{without}
-use Rattle.instances.specs.Listed.{Listed, packedInstances}
+use Rattle.instances.specs.Listed.{Listed, ListedOnce, packedInstances}
 use Rattle.instances.specs.declared.Instances.{Instances}
 use Rattle.calculus.specs.Clauses.{noLiteral}
 
@@ -41,3 +41,6 @@ packed-others p q e = cc
 
 pub listed-says : {d : Instances} {ls : List Literal} → Listed d ls → take (d .count) (d .at) ≡ ls
 listed-says {d} {ls} L = rw (L .packed) (take-exactly noLiteral mostLiterals ls (L .few))
+
+pub listed-once : ListedOnce
+listed-once d e ls a b = a .packed ∙ sym (b .packed)

@@ -17,3 +17,7 @@ packedInstances ls = record { count = length ls; at = exactly mostLiterals noLit
 pub record Listed (d : Instances) (ls : List Literal) : Type 0 where
   pub few : length ls ≤ mostLiterals
   pub packed : d ≡ packedInstances ls
+
+-- Such a record is unique. Proved in proofs/Others.antt.
+abbrev pub ListedOnce : Type 0
+ListedOnce = (d e : Instances) (ls : List Literal) → Listed d ls → Listed e ls → d ≡ e

@@ -10,6 +10,7 @@ use lib.Seq.{sets-eq}
 use Rattle.basis.specs.Numbers.{whole}
 use Rattle.calculus.specs.Rules.{Answer}
 use Rattle.calculus.specs.Runs.{plain}
+use Rattle.calculus.proofs.Answers.{answer-unique}
 use Rattle.fields.specs.declared.Cursor.the-variants as C
 use Rattle.header.specs.declared.HeaderRead.{HeaderRead}
 use Rattle.steps.specs.Records.{fileAnswer}
@@ -26,7 +27,7 @@ use Rattle.listing.proofs.Once.{ends-once, printed-once}
 use Rattle.inspection.specs.StateText.{stateText}
 use Rattle.inspection.specs.Writing as writing
 use Rattle.inspection.specs.Writing.{Recorded, mostState}
-use Rattle.judging.specs.Judging.{Leaves, LeavesOnce}
+use Rattle.judging.specs.Judging.{Leaves, LeavesOnce, ListsOnce, ShowsOnce, inspected, mostInspection}
 use Rattle.judging.specs.Running.{ending, mostText}
 use Rattle.judging.proofs.Running.{Ran}
 use Rattle.judging.specs.declared.Written.{Written}
@@ -118,3 +119,9 @@ leaves-once J once after most s d d₁ d₂ (Bytes n k p) (Bytes m l q) (room₁
 leaves-once J once after most s d d₁ d₂ (Bytes n k p) Short (room, e, u) (short, left) = absurd (omega arith)
 leaves-once J once after most s d d₁ d₂ Short (Bytes n k p) (short, left) (room, e, u) = absurd (omega arith)
 leaves-once J once after most s d d₁ d₂ Short Short (short₁, left₁) (short₂, left₂) = (refl, left₁ ∙ sym left₂)
+
+pub lists-once : ListsOnce
+lists-once = leaves-once (plain whole) (answer-unique whole) lastLine mostListing
+
+pub shows-once : ShowsOnce
+shows-once = leaves-once (plain whole) (answer-unique whole) inspected mostInspection

@@ -44,6 +44,13 @@ Shows s d d′ r = Leaves (plain whole) inspected mostInspection s d d′ r
 abbrev pub LeavesOnce : Type 1
 LeavesOnce = (J : Judge) → AnswersOnce J → (after : Answer → List ℕ) (most : ℕ) (s d d₁ d₂ : List ℕ) (r₁ r₂ : Written) → Leaves J after most s d d₁ r₁ → Leaves J after most s d d₂ r₂ → (r₁ ≡ r₂) × (d₁ ≡ d₂)
 
+-- So is that of `judge`, and that of `inspect`.
+abbrev pub ListsOnce : Type 0
+ListsOnce = (s d d₁ d₂ : List ℕ) (r₁ r₂ : Written) → Lists s d d₁ r₁ → Lists s d d₂ r₂ → (r₁ ≡ r₂) × (d₁ ≡ d₂)
+
+abbrev pub ShowsOnce : Type 0
+ShowsOnce = (s d d₁ d₂ : List ℕ) (r₁ r₂ : Written) → Shows s d d₁ r₁ → Shows s d d₂ r₂ → (r₁ ≡ r₂) × (d₁ ≡ d₂)
+
 -- From bytes to bytes: where the n bytes written end in the line `refuted`, the file is a good one, and no reading of the predicates over the
 -- whole numbers makes its clauses true. Proved in proofs/EndToEnd.antt.
 abbrev pub EndToEnd : Type 1

@@ -1,9 +1,10 @@
--- What holds of listings: every file has exactly one, and `refuted` shows that the clauses have no model. What holds of every judge
--- is stated of every judge; the rules over the whole numbers are one. Proved in proofs/.
+-- What holds of listings: every file has exactly one, and it is that of its first bytes; `refuted` shows that the clauses have no model. What
+-- holds of every judge is stated of every judge; the rules over the whole numbers are one. Proved in proofs/.
 use mathlib.Core.Path.{_≡_}
+use mathlib.Core.Logic.{_↔_}
 use mathlib.Core.List.{List, _++_}
 use Prim.Native.Nat.{ℕ, _<_, _≤_}
-use lib.ListN.{length}
+use lib.ListN.{length, take}
 use Rattle.basis.specs.Limits.{mostEntries}
 use Rattle.basis.specs.Numbers.{Numbers, whole}
 use Rattle.basis.specs.Refusals.{noRoom}
@@ -14,6 +15,7 @@ use Rattle.calculus.specs.States.{Step}
 use Rattle.calculus.specs.Truth.{NoModel}
 use Rattle.runfile.specs.Readers.{got}
 use Rattle.runfile.specs.File.{File, file}
+use Rattle.runfile.specs.Claims.{mostRead}
 use Rattle.text.specs.Text.{bytes}
 use Rattle.listing.specs.Lines.{lastLine}
 use Rattle.listing.specs.Listing.{Printed, Ends, mostListing}
@@ -31,6 +33,13 @@ PrintedOnce = (J : Judge) → AnswersOnce J → (after : Answer → List ℕ) (s
 -- It ends in one way.
 abbrev pub EndsOnce : Type 1
 EndsOnce = (J : Judge) → AnswersOnce J → (s : List ℕ) (n p m q : ℕ) → Ends J s n p → Ends J s m q → (n ≡ m) × (p ≡ q)
+
+-- Reading no more than `mostRead` bytes loses nothing: a file prints what its first bytes print, and ends as they do.
+abbrev pub FirstBytesPrinted : Type 1
+FirstBytesPrinted = (J : Judge) (after : Answer → List ℕ) (s w : List ℕ) → Printed J after s w ↔ Printed J after (take mostRead s) w
+
+abbrev pub FirstBytesEnd : Type 1
+FirstBytesEnd = (J : Judge) (s : List ℕ) (number place : ℕ) → Ends J s number place ↔ Ends J (take mostRead s) number place
 
 -- No line is longer than a listing has room for: trails and levels are within the trail's limit, and refusals are numbers of the table.
 pub record Modest (J : Judge) : Type 0 where

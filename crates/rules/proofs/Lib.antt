@@ -1,5 +1,6 @@
 -- Why each rule's answer is the calculus's.
 pub mod Told
+pub mod Once
 pub mod Reached
 pub mod Runs
 pub mod Asking

@@ -38,3 +38,7 @@ Answered r k x a = (s : State) → RunOf r s → k ≡ lookedAt s x → Told s x
 -- The answer is unique. Proved in proofs/Told.antt.
 abbrev pub AnswerUnique : Type 0
 AnswerUnique = (r : Run) (k : Looked) (x : Step) (a b : Stepped) → Handed r k x → Answered r k x a → Answered r k x b → a ≡ b
+
+-- .. and so is that of a rule that looks at no clause of the table.
+abbrev pub RunAnswerUnique : Type 0
+RunAnswerUnique = (r : Run) (x : Step) (a b : Stepped) → Kept r → Answers r x a → Answers r x b → a ≡ b

@@ -2,3 +2,5 @@
 pub mod Given
 pub mod Back
 pub mod Times
+pub mod Short
+pub mod Longest

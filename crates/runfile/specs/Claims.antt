@@ -1,9 +1,10 @@
--- What every file gives, and that a file that is written is read back. Proved in proofs/Given.antt and proofs/Back.antt.
+-- What every file gives, that a file that is written is read back, and how much of a file has to be read. Proved in proofs/Given.antt,
+-- proofs/Back.antt, proofs/Short.antt and proofs/Longest.antt.
 use mathlib.Core.Path.{_≡_}
 use mathlib.Core.List.{List, List·Memᴰ}
-use Prim.Native.Nat.{ℕ, _≤_}
-use lib.ListN.{length}
-use Rattle.basis.specs.Limits.{mostVariables}
+use Prim.Native.Nat.{ℕ, _+_, _*_, _≤_, _<_}
+use lib.ListN.{length, take}
+use Rattle.basis.specs.Limits.{mostVariables, mostAtoms, mostLiterals, mostInput, mostPredicates, mostArguments}
 use Rattle.basis.specs.Refusals.{endsInside, surplus}
 use Rattle.calculus.specs.Admission.{Admitted, fresh}
 use Rattle.calculus.specs.States.{State, Step, Propagate, Decide, Conflict, Resolve, Factorize, Skip, Backtrack, Grow, Unknown}
@@ -51,3 +52,42 @@ EveryFile = (s : List ℕ) → Outcome s (file s)
 -- What can be said is read back from what is written for it.
 abbrev pub ReadBack : Type 0
 ReadBack = (F : File) → Sayable F → file (written F) ≡ got F (length (written F))
+
+-- ---- how long a good file can be
+
+-- A clause: three counts, its atoms (p, q and the four bytes of c), and its literals (sign, predicate and arguments)
+abbrev pub mostClauseBytes : ℕ
+mostClauseBytes = 3 + mostAtoms * 6 + mostLiterals * (2 + mostArguments)
+
+-- A step: none is longer than Decide, which has its rule number, clause, literal, sign, and the count and constants of an instance
+abbrev pub mostStepBytes : ℕ
+mostStepBytes = 5 + mostVariables
+
+-- Mark and version; the constants; predicates and an arity each; input clauses and each; the number of steps and each
+abbrev pub mostFile : ℕ
+mostFile = 3 + 2 + 1 + (1 + mostPredicates) + (1 + mostInput * mostClauseBytes) + (2 + mostSteps * mostStepBytes)
+
+-- 42,994 bytes
+abbrev pub MostFileCounted : Type 0
+MostFileCounted = mostFile ≡ 42994
+
+-- "A valid file is below 65,536 bytes": it is below 42,995.
+abbrev pub GoodFilesShort : Type 0
+GoodFilesShort = (s : List ℕ) (F : File) (next : ℕ) → file s ≡ got F next → length s ≤ mostFile
+
+-- .. and some good file has all 42,994.
+abbrev pub LongestFile : Type 0
+LongestFile = (s : List ℕ) × (F : File) × (file s ≡ got F mostFile)
+
+-- A file, good or bad, is read as its first bytes are, where these are more than a good file can have: they say the same, or are refused by the
+-- same number at the same place ..
+abbrev pub FirstBytesTell : Type 0
+FirstBytesTell = (N : ℕ) → mostFile < N → (s : List ℕ) → file (take N s) ≡ file s
+
+-- .. but not as its first `mostFile` bytes: they may be a good file, and those after them its surplus.
+abbrev pub FewerDoNot : Type 0
+FewerDoNot = ((s : List ℕ) → file (take mostFile s) ≡ file s) → ⊥
+
+-- "The program reads no more" than 65,535 bytes: the constant `MOST_READ` of the programs.
+abbrev pub mostRead : ℕ
+mostRead = 65535

@@ -19,7 +19,7 @@ use Rattle.trail.specs.Entries.{entryAs, entryOf, pastEnd, trailOf}
 use Rattle.trail.specs.declared.Entry.{Entry}
 use Rattle.trail.specs.declared.Kind.{Kind}
 use Rattle.trail.specs.declared.Kind.the-variants.{Background, Propagated, Decided}
-use Rattle.testing.specs.Asked.{Gathers, InRoom, isBackground, knownAtoms, stepAtoms, testedAtoms}
+use Rattle.testing.specs.Asked.{Gathers, GathersOnce, InRoom, isBackground, knownAtoms, stepAtoms, testedAtoms}
 use Rattle.testing.specs.declared.Tested.{Tested}
 
 -- ---- the walks
@@ -94,3 +94,6 @@ module _ {t : Tested} {ts az : List Atom} (G : Gathers t ts az) where
 
   pub in-room : InRoom t
   in-room = subst InRoom (sym (G .packed)) (record { ordered = omega (arith, length-append ts az); few = few; few-step = omega (arith, length-append ts az, G .few-step) })
+
+pub gathers-once : GathersOnce
+gathers-once t u ts az a b = a .packed ∙ sym (b .packed)

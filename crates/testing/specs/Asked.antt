@@ -30,6 +30,10 @@ pub record Gathers (t : Tested) (ts az : List Atom) : Type 0 where
   pub few-step : length az ≤ mostAtoms
   pub packed : t ≡ packedTested ts az
 
+-- Such a record is unique. Proved in proofs/Atoms.antt.
+abbrev pub GathersOnce : Type 0
+GathersOnce = (t u : Tested) (ts az : List Atom) → Gathers t ts az → Gathers u ts az → t ≡ u
+
 -- All atoms of a record, those of the trail, and those of the clause
 abbrev pub testedAtoms : Tested → List Atom
 testedAtoms t = take (t .count) (t .atoms)
@@ -56,3 +60,7 @@ pub record Testable (constants : ℕ) (atoms : List Atom) : Type 0 where
 -- The answer is yes exactly if the constraint test takes the atoms and they are possible.
 abbrev pub SaysPossible : ℕ → List Atom → Bool → Type 0
 SaysPossible constants atoms b = T b ↔ (Testable constants atoms × Possible whole constants atoms)
+
+-- There is one such answer. Proved in proofs/Asked.antt.
+abbrev pub SaysPossibleOnce : Type 0
+SaysPossibleOnce = (constants : ℕ) (atoms : List Atom) (b c : Bool) → SaysPossible constants atoms b → SaysPossible constants atoms c → b ≡ c

@@ -10,7 +10,7 @@ use borrow.Author.Tests.{lt-ltb, le-ltb, ltb-true, ltb-false}
 use lib.Dec.{ltb}
 use lib.ListN.{length, take, set, getD, length-append}
 use lib.Seq.{sets, length-sets, take-suc, length-take-le}
-use Rattle.text.specs.Text.{digit, decimalIn, decimal, Wrote}
+use Rattle.text.specs.Text.{digit, decimalIn, decimal, Wrote, WroteOnce}
 
 -- ---- decimal digits
 
@@ -86,3 +86,6 @@ and-then {d} {d₁} {d₂} {i} {r₁} {r₂} {v} {w} a b = record {
 -- The same bytes said in another way
 pub as-text : {d d′ v w : List ℕ} {i r : ℕ} → v ≡ w → Wrote d i v d′ r → Wrote d i w d′ r
 as-text e a = rw e at a
+
+pub wrote-once : WroteOnce
+wrote-once d i w d₁ d₂ r₁ r₂ a b = (a .left ∙ sym (b .left), a .next ∙ sym (b .next))

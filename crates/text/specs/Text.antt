@@ -38,3 +38,7 @@ signedText (negsuc n) = bytes "-" ++ decimal (suc n)
 pub record Wrote (d : List ℕ) (i : ℕ) (w d′ : List ℕ) (r : ℕ) : Type 0 where
   pub next : r ≡ i + length w
   pub left : d′ ≡ sets d i w
+
+-- The buffer and the place are unique. Proved in proofs/Text.antt.
+abbrev pub WroteOnce : Type 0
+WroteOnce = (d : List ℕ) (i : ℕ) (w d₁ d₂ : List ℕ) (r₁ r₂ : ℕ) → Wrote d i w d₁ r₁ → Wrote d i w d₂ r₂ → (d₁ ≡ d₂) × (r₁ ≡ r₂)

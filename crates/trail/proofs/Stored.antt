@@ -11,7 +11,7 @@ use lib.Seq.{getD-set-other, getD-set-same, take-suc}
 use Rattle.basis.specs.Limits.{mostEntries, mostVariables}
 use Rattle.lists.proofs.Arrays.{exactly-length, set-exactly, take-exactly, unset-exactly}
 use Rattle.lists.specs.Arrays.{exactly}
-use Rattle.trail.specs.Entries.{AllShort, OwnTrail, Recorded, Short, Stored, entryOf, blankEntry, packedEntry, packedTrail, pastEnd, trailOf}
+use Rattle.trail.specs.Entries.{AllShort, OwnTrail, Recorded, RecordedOnce, Short, Stored, entryOf, blankEntry, packedEntry, packedTrail, pastEnd, trailOf}
 use Rattle.trail.specs.declared.Entry.{Entry}
 use Rattle.calculus.specs.Rules.{withoutLast}
 use Rattle.calculus.specs.Trails as calculus
@@ -111,6 +111,9 @@ pub packed-stored : (t : Trail) → length t ≤ mostEntries → AllShort t → 
 packed-stored [] h s = stored-none
 packed-stored (x ∷ t) h s =
     subst (λ a. Stored a (suc (length t)) (x ∷ t)) (packed-push x t h) (stored-push (packed-stored t (omega arith) (s .1)) h x (s .0))
+
+pub recorded-once : RecordedOnce
+recorded-once e f x a b = a .is ∙ sym (b .is)
 
 -- ---- the trail cut
 

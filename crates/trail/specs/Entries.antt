@@ -72,3 +72,7 @@ AllShort (e ∷ t) = Short e × AllShort t
 pub record Recorded (e : Entry) (x : calculus.Entry) : Type 0 where
   pub is : e ≡ packedEntry x
   pub short : Short x
+
+-- Such a record is unique. Proved in proofs/Stored.antt.
+abbrev pub RecordedOnce : Type 0
+RecordedOnce = (e f : Entry) (x : calculus.Entry) → Recorded e x → Recorded f x → e ≡ f
