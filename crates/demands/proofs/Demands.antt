@@ -12,14 +12,16 @@ use Rattle.basis.specs.Refusals.{accepted, noRoom}
 use Rattle.calculus.specs.Admission.{fresh}
 use Rattle.calculus.specs.Clauses as calculus
 use Rattle.calculus.specs.Rules.{Answer}
-use Rattle.calculus.specs.Runs.{Run, plain}
+use Rattle.calculus.specs.Runs.{plain}
+use Rattle.calculus.specs.Sound.{SoundStart}
+use Rattle.calculus.specs.Truth.{NoModel}
 use Rattle.calculus.specs.States as states
 use Rattle.calculus.proofs.Answers as answers
 use Rattle.calculus.proofs.Answers.{accepted-exactly-if-allowed, number-in-table}
-use Rattle.calculus.proofs.Runs.{admitted-starts}
+use Rattle.calculus.proofs.Runs.{admitted-starts, start-reached}
 use Rattle.calculus.proofs.Sound.{admitted-sound, sound-judge}
-use Rattle.runfile.specs.Claims.{Outcome, opened}
-use Rattle.runfile.specs.File.{File, file}
+use Rattle.runfile.specs.Claims.{Outcome}
+use Rattle.runfile.specs.File.{File, file, opened}
 use Rattle.runfile.specs.Readers.{Got, got, bad}
 use Rattle.runfile.proofs.Given.{every-file}
 use Rattle.rules.proofs.Runs.{some-conflict}
@@ -44,7 +46,7 @@ use Rattle.state.specs.declared.Answered.{Answered}
 use Rattle.state.specs.declared.Opened.{Opened}
 use Rattle.state.specs.declared.State.{State}
 use Rattle.demands.specs.Demands as demands
-use Rattle.demands.specs.Demands.{AdmitAnswered, RightAnswer, Demand1, Demand2, Demand3, FileAnswered, FileRight, Settled, StepAnswered}
+use Rattle.demands.specs.Demands.{AdmitAnswered, RightAnswer, Demand1, Demand2, Demand3, FileAnswered, FileRight, Refutes, Settled, StepAnswered}
 
 -- ---- 1: files
 
@@ -144,29 +146,24 @@ by-the-rule r s x a S h =
       no-place = λ z. place-is ∙ j .no-place (λ q. z (number-is ∙ q));
     }
 
--- A run of the code from what `admit` accepted
-module _ (constants : ℕ) (arities : List ℕ) (cs : List calculus.Clause) (a : Opened) (e : a ≡ state.opened constants arities cs) (h : a .number ≡ accepted) (xs : List Step) (r : State) (run : CodeRun (a .state) xs r) where
-  abbrev from : states.State
-  from = fresh constants arities cs
-
-  ran : (s : states.State) × Run (plain whole) from (map stepOf xs) s × (r ≡ packedState s)
-  ran =
-      let (k, S) = admit-makes-states constants arities cs a e h in
-      code-runs-are-runs from r xs (S .reached) (subst (λ (q : State). CodeRun q xs r) (S .is) run)
-
 no-literals : {A : Type 0} (l : List A) → length l ≡ 0 → l ≡ []
 no-literals [] e = refl
 no-literals (x ∷ l) e = absurd (omega arith)
+
+sound-from : (s₀ : states.State) → SoundStart whole s₀ → (xs : List Step) (r : State) → CodeRun (packedState s₀) xs r → Refutes r → NoModel whole (s₀ .arities) (s₀ .input)
+sound-from s₀ S xs r run t =
+    let (s, steps, is) = code-runs-are-runs s₀ r xs (start-reached (plain whole) s₀ (S .start)) run in
+    let c = some-conflict (s .conflict) (sym (ap (λ (q : State). q .run .stands) is) ∙ t .stands) in
+    let z = no-literals (states.conflictOf (s .conflict) .clause .literals) (sym (ap (λ (q : State). q .run .conflict .clause .literalcount) is) ∙ t .no-literals) in
+    sound-judge whole s₀ s (map stepOf xs) (states.conflictOf (s .conflict)) S steps c z
 
 pub demand-2 : Demand2
 demand-2 = record {
   by-the-rule = by-the-rule;
   sound = λ constants arities cs a e h xs r run t.
       let (k, S) = admit-makes-states constants arities cs a e h in
-      let (s, steps, is) = ran constants arities cs a e h xs r run in
-      let c = some-conflict (s .conflict) (sym (ap (λ (q : State). q .run .stands) is) ∙ t .stands) in
-      let z = no-literals (states.conflictOf (s .conflict) .clause .literals) (sym (ap (λ (q : State). q .run .conflict .clause .literalcount) is) ∙ t .no-literals) in
-      sound-judge whole (fresh constants arities cs) s (map stepOf xs) (states.conflictOf (s .conflict)) (admitted-sound whole (fresh constants arities cs) k) steps c z;
+      sound-from (fresh constants arities cs) (admitted-sound whole (fresh constants arities cs) k) xs r (subst (λ (q : State). CodeRun q xs r) (S .is) run) t;
+  sound-from = sound-from;
   file-sound = end-to-end;
 }
 
@@ -176,7 +173,7 @@ pub demand-3 : Demand3
 demand-3 = record {
   replayed = λ constants arities cs a e h xs r run free.
       let (k, S) = admit-makes-states constants arities cs a e h in
-      let (s, steps, is) = ran constants arities cs a e h xs r run in
+      let (s, steps, is) = code-runs-are-runs (fresh constants arities cs) r xs (S .reached) (subst (λ (q : State). CodeRun q xs r) (S .is) run) in
       code-replays r (s, record { reached = record { first = fresh constants arities cs; steps = map stepOf xs; start = admitted-starts (fresh constants arities cs) k; run = steps }; is = is }) free;
   file-replayed = λ s F n w e f t calm.
       let (sayable, whole-file) = subst (Outcome s) f (every-file s) in

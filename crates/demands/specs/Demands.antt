@@ -1,6 +1,7 @@
 -- THE USER'S THREE DEMANDS, of the code. Files go through `judge`, steps through `admit` and `step`, and of these a statement here knows what
 -- they promise: `Lists s d d′ r` of judge, which is lent the file s and the buffer d, leaves d′ and answers r; `a ≡ opened ..` of admit; and
--- `Answers r x a` of step, which is asked x at the record r. Each demand is proved as a whole in proofs/Demands.antt.
+-- `Answers r x a` of step, which is asked x at the record r. `Made r` is what step takes for granted: r is the record of a state reached, as is
+-- whatever admit, step and `start_again` hand back. Each demand is proved as a whole in proofs/Demands.antt.
 use mathlib.Core.Path.{_≡_}
 use mathlib.Core.Logic.{_↔_}
 use mathlib.Core.List.{List, [], _++_}
@@ -15,9 +16,10 @@ use Rattle.calculus.specs.Clauses as calculus
 use Rattle.calculus.specs.Conditions.{Allowed, FirstLacking, NamesNotFalse, conditions}
 use Rattle.calculus.specs.Rules.{Answer, next}
 use Rattle.calculus.specs.Runs.{plain}
+use Rattle.calculus.specs.Sound.{SoundStart}
 use Rattle.calculus.specs.States as states
 use Rattle.calculus.specs.Truth.{NoModel}
-use Rattle.runfile.specs.Claims as runfile
+use Rattle.runfile.specs.File as runfile
 use Rattle.runfile.specs.File.{File, file}
 use Rattle.runfile.specs.Readers.{got, bad}
 use Rattle.text.specs.Text.{bytes}
@@ -28,7 +30,7 @@ use Rattle.judging.specs.declared.Written.{Written}
 use Rattle.judging.specs.declared.Written.the-variants.{Bytes, Short}
 use Rattle.asking.specs.Steps.{stepOf}
 use Rattle.asking.specs.declared.Step.{Step}
-use Rattle.state.specs.Runs.{CodeAccepts, CodeRun, again, behind}
+use Rattle.state.specs.Runs.{CodeAccepts, CodeRun, startAgain, behind}
 use Rattle.state.specs.States.{Answers, Made, StateOf, opened, packedState}
 use Rattle.state.specs.declared.Answered.{Answered}
 use Rattle.state.specs.declared.Opened.{Opened}
@@ -67,7 +69,7 @@ pub record StepAnswered (r : State) (a : Answered) : Type 0 where
   pub in-table : a .number ≤ noRoom
   -- Number not 0: the record handed back is the one given.
   pub unchanged : ¬ (a .number ≡ accepted) → a .state ≡ r
-  -- What is handed back may be given to `step` again, untested.
+  -- What is handed back may be given to `step` startAgain, untested.
   pub made : Made (a .state)
 
 pub record Demand1 : Type 0 where
@@ -99,6 +101,8 @@ pub record Demand2 : Type 1 where
   pub by-the-rule : (r : State) (s : states.State) (x : Step) (a : Answered) → StateOf r s → Answers r x a → RightAnswer s (stepOf x) a
   pub sound : (constants : ℕ) (arities : List ℕ) (cs : List calculus.Clause) (a : Opened) → a ≡ opened constants arities cs → a .number ≡ accepted
       → (xs : List Step) (r : State) → CodeRun (a .state) xs r → Refutes r → NoModel whole arities cs
+  -- So does a run from any start whose learned clauses are true wherever the input is, such as a state that was reached, started again.
+  pub sound-from : (s₀ : states.State) → SoundStart whole s₀ → (xs : List Step) (r : State) → CodeRun (packedState s₀) xs r → Refutes r → NoModel whole (s₀ .arities) (s₀ .input)
   -- Of a file: the steps of its listing are answered by the same rules (FileAnswered, `Listing`), and where its last line is `refuted`:
   pub file-sound : (s d d′ v : List ℕ) (n k p : ℕ) → Lists s d d′ (Bytes n k p) → take n d′ ≡ v ++ bytes "refuted\n"
       → (F : File) × (file s ≡ got F (length s)) × NoModel whole (F .arities) (F .input)
@@ -111,7 +115,7 @@ pub record Demand2 : Type 1 where
 -- What is given back is the run: steps given to `step`, which may take each record on the way, and whose answers are those of demand 2.
 pub record Demand3 : Type 0 where
   pub replayed : (constants : ℕ) (arities : List ℕ) (cs : List calculus.Clause) (a : Opened) → a ≡ opened constants arities cs → a .number ≡ accepted
-      → (xs : List Step) (r : State) → CodeRun (a .state) xs r → r .run .stands ≡ false → CodeAccepts (again r) (behind r) r
+      → (xs : List Step) (r : State) → CodeRun (a .state) xs r → r .run .stands ≡ false → CodeAccepts (startAgain r) (behind r) r
   -- Of a file: the same of the record of the state in which its listing ends.
   pub file-replayed : (s : List ℕ) (F : File) (n : ℕ) (w : List ℕ) (e : Answer) → file s ≡ got F n → Tried (plain whole) (runfile.opened F) 1 (F .steps) w e → e .state .conflict ≡ none
-      → let r = packedState (e .state) in CodeAccepts (again r) (behind r) r
+      → let r = packedState (e .state) in CodeAccepts (startAgain r) (behind r) r

@@ -17,8 +17,7 @@ use Rattle.calculus.specs.States.{clauses}
 use Rattle.calculus.proofs.Answers.{number-in-table}
 use Rattle.calculus.proofs.Runs.{admitted-reached, steps-keep-reached}
 use Rattle.runfile.specs.Readers.{got}
-use Rattle.runfile.specs.File.{File, file, header, mostSteps, step}
-use Rattle.runfile.specs.Claims.{opened}
+use Rattle.runfile.specs.File.{File, file, header, mostSteps, step, opened}
 use Rattle.fields.specs.declared.Cursor.the-variants as C
 use Rattle.clauses.specs.Records.{packed}
 use Rattle.clauses.specs.declared.Clause.{Clause}

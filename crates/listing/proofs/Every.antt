@@ -12,8 +12,8 @@ use Rattle.calculus.specs.States.{Step}
 use Rattle.calculus.proofs.Answers.{judged-by}
 use Rattle.calculus.proofs.Runs.{admitted-reached, steps-keep-reached}
 use Rattle.runfile.specs.Readers.{Got, got, bad}
-use Rattle.runfile.specs.File.{File, file}
-use Rattle.runfile.specs.Claims.{Outcome, opened}
+use Rattle.runfile.specs.File.{File, file, opened}
+use Rattle.runfile.specs.Claims.{Outcome}
 use Rattle.runfile.proofs.Given.{every-file}
 use Rattle.rules.proofs.Told.{decided}
 use Rattle.listing.specs.Listing.{Tried, through, refused, went, Printed, badFile, goodFile}

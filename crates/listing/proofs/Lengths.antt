@@ -11,8 +11,8 @@ use Rattle.calculus.specs.States.{Step}
 use Rattle.calculus.proofs.Answers.{answer-unique, number-in-table}
 use Rattle.calculus.proofs.Sound.{sound-judge}
 use Rattle.calculus.proofs.Runs.{admitted-reached, steps-keep-reached}
-use Rattle.runfile.specs.File.{mostSteps}
-use Rattle.runfile.specs.Claims.{Outcome, opened}
+use Rattle.runfile.specs.File.{mostSteps, opened}
+use Rattle.runfile.specs.Claims.{Outcome}
 use Rattle.runfile.proofs.Given.{every-file}
 use Rattle.rules.proofs.Reached.{reached-fine, decisions-few}
 use Rattle.listing.specs.Lines.{acceptedLine, lastLine, mostLine}

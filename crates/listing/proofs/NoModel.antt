@@ -16,8 +16,9 @@ use Rattle.calculus.specs.Rules.{Reply}
 use Rattle.calculus.proofs.Sound.{admitted-sound}
 use Rattle.calculus.specs.Runs.{Judge, Run}
 use Rattle.calculus.specs.States.{Step}
+use Rattle.runfile.specs.File.{opened}
 use Rattle.runfile.specs.Readers.{got}
-use Rattle.runfile.specs.Claims.{Outcome, opened}
+use Rattle.runfile.specs.Claims.{Outcome}
 use Rattle.runfile.proofs.Given.{every-file}
 use Rattle.text.specs.Text.{bytes, digit, decimal}
 use Rattle.text.proofs.Text.{decimal-small, decimal-more}

@@ -9,8 +9,7 @@ use Rattle.calculus.specs.Rules.{Answer, Reply}
 use Rattle.calculus.specs.Runs.{Judge, plain, stated}
 use Rattle.calculus.specs.States.{Step}
 use Rattle.runfile.specs.Readers.{got, bad}
-use Rattle.runfile.specs.File.{File, file, mostSteps}
-use Rattle.runfile.specs.Claims.{opened}
+use Rattle.runfile.specs.File.{File, file, mostSteps, opened}
 use Rattle.listing.specs.Lines.{acceptedLine, refusedLine, lastLine, badLine, mostLine, mostLast}
 
 -- The steps tried from a place on, the first of them with the number n, the judge J answering: their lines, and the answer to the last of

@@ -6,15 +6,11 @@ use Prim.Native.Nat.{ℕ, _+_, _*_, _≤_, _<_}
 use lib.ListN.{length, take}
 use Rattle.basis.specs.Limits.{mostVariables, mostAtoms, mostLiterals, mostInput, mostPredicates, mostArguments}
 use Rattle.basis.specs.Refusals.{endsInside, surplus}
-use Rattle.calculus.specs.Admission.{Admitted, fresh}
-use Rattle.calculus.specs.States.{State, Step, Propagate, Decide, Conflict, Resolve, Factorize, Skip, Backtrack, Grow, Unknown}
+use Rattle.calculus.specs.Admission.{Admitted}
+use Rattle.calculus.specs.States.{Step, Propagate, Decide, Conflict, Resolve, Factorize, Skip, Backtrack, Grow, Unknown}
 use Rattle.runfile.specs.Readers.{Got, got, bad}
-use Rattle.runfile.specs.File.{mostSteps, File, file}
+use Rattle.runfile.specs.File.{mostSteps, File, file, opened}
 use Rattle.runfile.specs.Written.{written}
-
--- The state that a file's header makes
-abbrev pub opened : File → State
-opened F = fresh (F .constants) (F .arities) (F .input)
 
 -- What the file holds steps to: one of the eight rules, a Decide sign of 0 or 1, an instance of at most 12 constants
 abbrev pub StepHeld : Step → Type 0

@@ -15,7 +15,8 @@ use Rattle.calculus.specs.Checks.{between, Check, _or_}
 use Rattle.calculus.specs.Clauses.{Clause}
 use Rattle.calculus.specs.Merging.{occursIn}
 use Rattle.calculus.specs.Class.{arityOf, differencesBounded}
-use Rattle.calculus.specs.States.{Step, Propagate, Decide, Conflict, Resolve, Factorize, Skip, Backtrack, Grow}
+use Rattle.calculus.specs.Admission.{fresh}
+use Rattle.calculus.specs.States.{State, Step, Propagate, Decide, Conflict, Resolve, Factorize, Skip, Backtrack, Grow}
 use Rattle.runfile.specs.Readers.{Got, got, bad, Reader, _then_, give, _judged_, field, times}
 
 -- ---- numbers
@@ -175,6 +176,10 @@ pub record File : Type 0 where
   pub arities : List ℕ
   pub input : List Clause
   pub steps : List Step
+
+-- The state that a file's header makes
+abbrev pub opened : File → State
+opened F = fresh (F .constants) (F .arities) (F .input)
 
 -- What a file says, or the number and place of its refusal
 unfoldable pub file : List ℕ → Got File

@@ -22,13 +22,13 @@ use Rattle.rules.proofs.Runs.{no-conflict}
 use Rattle.trail.proofs.Stored.{row-held}
 use Rattle.trail.specs.Entries.{AllShort, packedEntry}
 use Rattle.trail.specs.declared.Entry.{Entry}
-use Rattle.state.specs.Runs.{AgainRestarts, BehindReplays, CodeAccepts, CodeReplays, again, behind, behindEntry, over, then}
+use Rattle.state.specs.Runs.{StartAgainRestarts, BehindReplays, CodeAccepts, CodeReplays, StartsAgain, behind, behindEntry, over, startAgain, then}
 use Rattle.state.specs.States.{packedAnswer, packedState}
 use Rattle.state.specs.declared.State.{State}
 use Rattle.state.proofs.Runs.{answers-so}
 
-pub again-restarts : AgainRestarts
-again-restarts s = refl
+pub start-again-restarts : StartAgainRestarts
+start-again-restarts s = refl
 
 -- The steps behind entries, first to last
 abbrev stepsBehind : Trail → List states.Step
@@ -62,8 +62,13 @@ code-accepts {s} (x ∷ xs) e R (AcceptedRun.then {x = y} {xs = ys} b j n rest) 
     let k = subst (λ q. Judged whole s q b) first j in
     then x (packedAnswer b) (s, record { reached = R; is = refl }) (answers-so s x b R k) n (code-accepts xs others (steps-keep-reached (plain whole) s (stepOf x) b R k) rest)
 
+again-reached : (s : states.State) → Reached (plain whole) s → Reached (plain whole) (restarted s)
+again-reached s R = start-reached (plain whole) (restarted s) (restarted-starts whole s R)
+
+pub starts-again : StartsAgain
+starts-again r (s, S) = (restarted s, record { reached = again-reached s (S .reached); is = ap startAgain (S .is) })
+
 pub code-replays : CodeReplays
 code-replays r (s, S) free =
     let calm = no-conflict (s .conflict) (sym (ap (λ (q : State). q .run .stands) (S .is)) ∙ free) in
-    let start = start-reached (plain whole) (restarted s) (restarted-starts whole s (S .reached)) in
-    subst (λ (q : State). CodeAccepts (again q) (behind q) q) (sym (S .is)) (code-accepts (behind (packedState s)) (behind-replays s (S .reached)) start (replays whole s (S .reached) calm))
+    subst (λ (q : State). CodeAccepts (startAgain q) (behind q) q) (sym (S .is)) (code-accepts (behind (packedState s)) (behind-replays s (S .reached)) (again-reached s (S .reached)) (replays whole s (S .reached) calm))

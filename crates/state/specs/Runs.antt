@@ -39,8 +39,8 @@ CodeRunsAreRuns = (s₀ : states.State) (r : State) (xs : List Step) → Reached
 -- ---- replay
 
 -- "Start again from an empty trail at level 0, with the input clauses, constants and learned clauses held at the end."
-abbrev pub again : State → State
-again r = record {
+abbrev pub startAgain : State → State
+startAgain r = record {
   run = record {
     constants = r .run .constants;
     input = r .run .input;
@@ -71,13 +71,17 @@ abbrev pub behind : State → List Step
 behind r = flatMap behindEntry (take (r .run .length) (r .run .trail))
 
 -- Of the records of states these are what the calculus gives again. Proved in proofs/Replaying.antt.
-abbrev pub AgainRestarts : Type 0
-AgainRestarts = (s : states.State) → again (packedState s) ≡ packedState (restarted s)
+abbrev pub StartAgainRestarts : Type 0
+StartAgainRestarts = (s : states.State) → startAgain (packedState s) ≡ packedState (restarted s)
 
 abbrev pub BehindReplays : Type 0
 BehindReplays = (s : states.State) → Reached (plain whole) s → map stepOf (behind (packedState s)) ≡ replayed (s .trail)
 
--- So replay is a run of the code: where no conflict stands, the steps behind the trail, given to `step` from the state started again, are each
+-- What is started again may be given to `step`. Proved in proofs/Replaying.antt.
+abbrev pub StartsAgain : Type 0
+StartsAgain = (r : State) → Made r → Made (startAgain r)
+
+-- So replay is a run of the code: where no conflict stands, the steps behind the trail, given to `step` from the state started startAgain, are each
 -- accepted and lead to the same record. Proved in proofs/Replaying.antt.
 abbrev pub CodeReplays : Type 0
-CodeReplays = (r : State) → Made r → r .run .stands ≡ false → CodeAccepts (again r) (behind r) r
+CodeReplays = (r : State) → Made r → r .run .stands ≡ false → CodeAccepts (startAgain r) (behind r) r

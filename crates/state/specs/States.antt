@@ -65,8 +65,8 @@ Answers r x a = (s : states.State) → StateOf r s → (b : Answer) × Judged wh
 -- ---- admission
 
 -- "Only admission makes a state": of what it accepts, the state in which nothing has been done. "A refused file yields no state": the answer is a
--- struct, since no enum holds an array, and so some record stands beside a refusal. It is that of no clauses, no predicates and no constants, in
--- which nothing of what was offered is left; no step but Grow is accepted there.
+-- struct, since no enum holds an array, and so some record stands beside a refusal. It is that of no clauses, no predicates and no constants:
+-- nothing of what was offered is left in it.
 abbrev pub madeOf : ℕ → ℕ → List ℕ → List calculus.Clause → states.State
 madeOf number constants arities cs = cond (eqb number accepted) (fresh constants arities cs) (fresh 0 [] [])
 

@@ -6,6 +6,7 @@ ghost use Rattle.lists.specs.Arrays.{exactly};
 ghost use Rattle.calculus.specs.Clauses as calculus;
 ghost use Rattle.clauses.specs.Records.{packed};
 ghost use Rattle.admission.specs.Offered.{offeredArities, offeredTable};
+ghost use Rattle.state.specs.Runs.{startAgain};
 ghost use Rattle.state.specs.States.{Answers, IsNew, Made, newRun, opened};
 use asking::Step;
 use asking::last_slot;
@@ -37,7 +38,8 @@ pub struct Answered {
     pub place: u8,
 }
 
-// What admission hands back: a state; or the refusal's number and place, and beside them the state of no clauses
+// What admission hands back: a state; or the refusal's number and place. "A refused file yields no state": no enum holds an array, so that some
+// record stands beside a refusal, and it is that of no clauses, no predicates and no constants.
 pub struct Opened {
     pub state: State,
     pub number: u8,
@@ -187,6 +189,18 @@ impl State {
             number: a.number,
             place: a.place,
         }
+    }
+
+    // "Start again from an empty trail at level 0, with the input clauses, constants and learned clauses held at the end."
+    pub fn start_again(self) -> State
+        ensures { λ r. ⌜ r ≡ startAgain self ⌝ }
+    {
+        let old = self.run;
+        let mut run = new_run(old.constants, old.input);
+        run.learned = old.learned;
+        let mut state = self;
+        state.run = run;
+        state
     }
 
     // ---- what a state says to whoever looks at it
