@@ -9,7 +9,7 @@ ghost use Rattle.basis.specs.Limits.{mostVariables, mostInput, mostLearned, mos
 ghost use Rattle.calculus.specs.Checks.{between};
 ghost use Rattle.calculus.specs.Clauses.{sameLiteral};
 ghost use Rattle.calculus.specs.Clauses as calculus;
-ghost use Rattle.calculus.specs.Asks.{literalExists, instanceFits, complementInConflict};
+ghost use Rattle.calculus.specs.Tests.{literalExists, instanceFits, complementInConflict};
 ghost use Rattle.calculus.specs.Rules.{literalInstance};
 ghost use Rattle.calculus.specs.Trails.{isDecision};
 ghost use Rattle.clauses.specs.Records.{clauseOf, instancedOf};

@@ -18,7 +18,8 @@ use Rattle.lists.proofs.Denials.{or-false}
 use Rattle.lists.proofs.Tests.{and-i, and-l, and-r, not-eqb, or-l, or-r}
 use Rattle.lists.specs.Lists.{allOf, anyOf}
 use Rattle.calculus.specs.Answers.{AcceptedExactlyIfAllowed, AnswerUnique, NumberInTable, TriedInRisingOrder, rising}
-use Rattle.calculus.specs.Asks.{allFalse, answer, asks, firstFailing, notFalsePlace, othersFalse, question}
+use Rattle.calculus.specs.Tests.{allFalse, firstFailing, othersFalse}
+use Rattle.calculus.proofs.Computed.{answer, asks, notFalsePlace, question}
 use Rattle.calculus.specs.Checks.{Check, firstRefusal}
 use Rattle.calculus.specs.Clauses.{complement, ground, noLiteral, sameLiteral}
 use Rattle.calculus.specs.Conditions.{Allowed, Condition, EachHolds, FirstLacking, FirstNotFalse, Judged, NamesNotFalse, conditions}

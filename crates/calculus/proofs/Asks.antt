@@ -1,4 +1,4 @@
--- Each check of Asks.antt says its condition of Conditions.antt, so the first check that fails is the first condition that does not hold.
+-- Each check of Computed.antt says its condition of specs/Conditions.antt, so the first check that fails is the first condition that does not hold.
 use mathlib.Core.Path.{_∙_, _≡_, ap, refl}
 use mathlib.Core.Logic.{_↔_, _⊎_, inl, inr}
 use mathlib.Core.List.{List, List·Memᴰ, Memᴰ·cast, [], _∷_}
@@ -19,7 +19,8 @@ use Rattle.lists.specs.Lists.{allOf, anyOf}
 use Rattle.calculus.specs.Checks.{Check, _or_, between, firstRefusal}
 use Rattle.calculus.specs.Class.{Limited, withinLimits}
 use Rattle.calculus.specs.Clauses.{Clause, Instanced, complement, ground, sameLiteral}
-use Rattle.calculus.specs.Asks.{allFalse, asks, clauseExists, complementInConflict, instanceFits, lastIsPropagated, literalExists, nonempty, othersFalse, question}
+use Rattle.calculus.specs.Tests.{allFalse, clauseExists, complementInConflict, instanceFits, lastIsPropagated, literalExists, nonempty, othersFalse}
+use Rattle.calculus.proofs.Computed.{asks, question}
 use Rattle.calculus.specs.Conditions.{ComplementNotIn, Condition, EachHolds, FirstLacking, InstanceOf, LastPropagated, Names, _otherwise_, conditions, literalAt}
 use Rattle.calculus.specs.OnTrail.{False, On, Undefined}
 use Rattle.calculus.specs.Rules.{backLevel, decidedLiteral, isOne, lastLiteral, literalInstance, next, otherInstances}

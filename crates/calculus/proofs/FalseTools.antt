@@ -14,7 +14,7 @@ use Rattle.basis.specs.declared.Literal.{Literal}
 use Rattle.lists.proofs.Tests.{Said, fails, holds, not-eqb, said}
 use Rattle.calculus.specs.Admission.{Admitted, fresh}
 use Rattle.calculus.specs.Clauses.{Clause, Instanced, ground, groundAtoms}
-use Rattle.calculus.specs.Asks.{answer}
+use Rattle.calculus.proofs.Computed.{answer}
 use Rattle.calculus.specs.Conditions.{Allowed, Judged, literalAt}
 use Rattle.calculus.specs.FalseTools.{AcceptsAll, ByTheRules, Demand2ExcludesFive, Demand3AloneAdmits, ExcludesFive, Invents, MeetsDemand2, OwnReplay, Refutation, Report, ThenNods, Tool, nodder, nodding, reached, refuser, workOnce}
 use Rattle.calculus.specs.Rules.{Answer, isOne, next}

@@ -21,7 +21,8 @@ use Rattle.calculus.specs.Checks.{between}
 use Rattle.calculus.specs.Class.{InClass, Limited}
 use Rattle.calculus.specs.Clauses.{Clause, Instanced, complement, ground, groundAtoms, noLiteral, renameAtom, sameLiteral, under}
 use Rattle.calculus.specs.Merging.{factored, reason, resolvent}
-use Rattle.calculus.specs.Asks.{asks, clauseExists, complementInConflict, instanceFits, lastIsPropagated, literalExists}
+use Rattle.calculus.specs.Tests.{clauseExists, complementInConflict, instanceFits, lastIsPropagated, literalExists}
+use Rattle.calculus.proofs.Computed.{asks}
 use Rattle.calculus.specs.Rules.{backLevel, decidedLiteral, isOne, lastLiteral, lastReason, levelAfterSkip, literalInstance, next, otherInstances, propagatedTrail}
 use Rattle.calculus.specs.States.{Backtrack, Conflict, Decide, Factorize, Grow, Propagate, Resolve, Skip, State, Step, Unknown, clauseAt, clauses, conflictOf, stands}
 use Rattle.calculus.specs.Trails.{Entry, Origin, Trail, atomsOf, background, cut, decided, decisions, foreground, isDecision, isFalse, levelOf, onTrail, propagated, undefined}

@@ -15,7 +15,7 @@ use Rattle.lists.proofs.Tests.{F→eq, Said, T→eq, and-i, and-l, and-r, fails
 use Rattle.lists.specs.Lists.{allOf}
 use Rattle.calculus.specs.Checks.{between}
 use Rattle.calculus.specs.Clauses.{Clause, Instanced, complement, ground, noClause, sameLiteral}
-use Rattle.calculus.specs.Asks.{clauseExists, complementInConflict, instanceFits}
+use Rattle.calculus.specs.Tests.{clauseExists, complementInConflict, instanceFits}
 use Rattle.calculus.specs.Rules.{levelAfterSkip, withoutLast}
 use Rattle.calculus.specs.States.{clauseAt}
 use Rattle.calculus.specs.Trails.{Entry, Origin, Trail, background, cut, decisions, foreground, isDecision, isFalse, isLiteral, largestLevel, levelOf, onTrail}

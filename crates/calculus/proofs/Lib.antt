@@ -6,6 +6,7 @@ pub mod Truths
 pub mod Derived
 pub mod OnTrail
 pub mod Cuts
+pub mod Computed
 pub mod Asks
 pub mod Answers
 pub mod Admitting

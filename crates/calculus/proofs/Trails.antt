@@ -15,7 +15,8 @@ use Rattle.basis.specs.declared.Atom.{Atom}
 use Rattle.basis.specs.declared.Literal.{Literal}
 use Rattle.lists.proofs.Tests.{F→eq, Said, T→eq, and-i, fails, holds, said}
 use Rattle.calculus.specs.Clauses.{Clause, ground, groundAtoms, noLiteral, sameAtom}
-use Rattle.calculus.specs.Asks.{answer, asks, clauseExists, instanceFits, literalExists, othersFalse}
+use Rattle.calculus.specs.Tests.{clauseExists, instanceFits, literalExists, othersFalse}
+use Rattle.calculus.proofs.Computed.{answer, asks}
 use Rattle.calculus.specs.Rules.{decidedLiteral, propagatedTrail}
 use Rattle.calculus.specs.Runs.{AcceptedRun, plain, replayed, restarted, stepOf, stepsOf}
 use Rattle.calculus.specs.States.{State, Step, clauseAt, clauses, updated}

@@ -12,7 +12,7 @@ pub mod Conditions
 pub mod Runs
 pub mod Cuts
 pub mod Answers
-pub mod Asks
+pub mod Tests
 pub mod Admitting
 pub mod Truth
 pub mod Merges

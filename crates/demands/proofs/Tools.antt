@@ -8,7 +8,7 @@ use lib.ListN.{length}
 use Rattle.basis.specs.Numbers.{whole}
 use Rattle.basis.specs.declared.Literal.{Literal}
 use Rattle.calculus.specs.Admission.{Admitted}
-use Rattle.calculus.specs.Asks.{answer}
+use Rattle.calculus.proofs.Computed.{answer}
 use Rattle.calculus.specs.Clauses.{Instanced}
 use Rattle.calculus.specs.Conditions.{Judged}
 use Rattle.calculus.specs.FalseTools.{ByTheRules, MeetsDemand2, Refutation, Tool, reached}

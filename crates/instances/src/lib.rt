@@ -10,7 +10,7 @@ ghost use Rattle.lists.specs.Arrays.{exactly};
 ghost use Rattle.lists.specs.Lists.{anyOf};
 ghost use Rattle.calculus.specs.Clauses.{noLiteral, sameLiteral};
 ghost use Rattle.calculus.specs.Clauses as calculus;
-ghost use Rattle.calculus.specs.Asks.{literalExists, instanceFits};
+ghost use Rattle.calculus.specs.Tests.{literalExists, instanceFits};
 ghost use Rattle.calculus.specs.Rules.{literalInstance, decidedLiteral, otherInstances};
 ghost use Rattle.clauses.specs.Counts.{Counts};
 ghost use Rattle.clauses.specs.Records.{clauseOf, instancedOf};

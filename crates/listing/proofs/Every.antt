@@ -5,7 +5,7 @@ use Prim.Native.Nat.{ℕ, _+_}
 use native.Mathlib.Decide.{ℕ-discrete}
 use Rattle.basis.specs.Numbers.{whole}
 use Rattle.basis.specs.Refusals.{accepted}
-use Rattle.calculus.specs.Asks.{answer}
+use Rattle.calculus.proofs.Computed.{answer}
 use Rattle.calculus.specs.Rules.{Reply}
 use Rattle.calculus.specs.Runs.{AnswersAll, Judge, Reached, plain}
 use Rattle.calculus.specs.States.{Step}

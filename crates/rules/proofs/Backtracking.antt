@@ -23,7 +23,8 @@ use Rattle.rules.specs.Answers.{RunOf, Told}
 use Rattle.rules.specs.Records.{appendedAt, refusedBy}
 use Rattle.rules.specs.declared.Run.{Run}
 use Rattle.calculus.proofs.Levels.{cut-tail}
-use Rattle.calculus.specs.Asks.{literalExists, question}
+use Rattle.calculus.specs.Tests.{literalExists}
+use Rattle.calculus.proofs.Computed.{question}
 use Rattle.calculus.specs.Rules.{backLevel, literalInstance, next, otherInstances}
 use Rattle.calculus.specs.States.{Backtrack, State, clauses, conflictOf}
 use Rattle.calculus.specs.Trails.{Trail, atomsOf, cut, foreground, levelOf, propagated}

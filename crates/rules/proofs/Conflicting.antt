@@ -24,7 +24,8 @@ use Rattle.rules.specs.declared.Run.{Run}
 use Rattle.rules.specs.declared.Stepped.{Stepped}
 use Rattle.calculus.specs.Checks.{between}
 use Rattle.calculus.specs.Clauses.{groundAtoms}
-use Rattle.calculus.specs.Asks.{allFalse, clauseExists, instanceFits, question}
+use Rattle.calculus.specs.Tests.{allFalse, clauseExists, instanceFits}
+use Rattle.calculus.proofs.Computed.{question}
 use Rattle.calculus.specs.States.{Conflict, State, Step, clauseAt, clauses, stands}
 use Rattle.calculus.specs.Trails.{atomsOf}
 use Rattle.clauses.specs.Records.{clauseOf, packed}

@@ -19,7 +19,7 @@ use Rattle.asking.specs.declared.Looked.{Looked}
 use Rattle.rules.specs.declared.Run.{Run}
 use Rattle.rules.specs.declared.Stepped.{Stepped}
 use Rattle.calculus.specs.Checks.{between}
-use Rattle.calculus.specs.Asks.{clauseExists, instanceFits, literalExists}
+use Rattle.calculus.specs.Tests.{clauseExists, instanceFits, literalExists}
 use Rattle.calculus.specs.Rules.{decidedLiteral, isOne, next}
 use Rattle.calculus.specs.States.{Decide, State, Step, clauseAt, clauses, conflictOf, stands}
 use Rattle.calculus.specs.Trails.{decided, foreground, undefined}

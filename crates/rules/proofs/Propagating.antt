@@ -26,7 +26,8 @@ use Rattle.rules.specs.declared.Run.{Run}
 use Rattle.rules.specs.declared.Stepped.{Stepped}
 use Rattle.calculus.specs.Checks.{between}
 use Rattle.calculus.specs.Clauses.{ground, groundAtoms, noLiteral}
-use Rattle.calculus.specs.Asks.{clauseExists, instanceFits, literalExists, othersFalse, question}
+use Rattle.calculus.specs.Tests.{clauseExists, instanceFits, literalExists, othersFalse}
+use Rattle.calculus.proofs.Computed.{question}
 use Rattle.calculus.specs.Rules.{next}
 use Rattle.calculus.specs.States.{Propagate, State, Step, clauseAt, clauses, conflictOf, stands}
 use Rattle.calculus.specs.Trails.{atomsOf, foreground, propagated, undefined}

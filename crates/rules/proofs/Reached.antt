@@ -22,7 +22,7 @@ use Rattle.calculus.proofs.Levels.{clause-held, instance-sized}
 use Rattle.calculus.proofs.Trails.{Built, StepOk, Tail, empty, group, grown, here, literalBy, there}
 use Rattle.calculus.specs.Class.{InClass, Limited}
 use Rattle.calculus.specs.Clauses.{groundAtoms, renameAtom, under}
-use Rattle.calculus.specs.Asks.{clauseExists, instanceFits, literalExists}
+use Rattle.calculus.specs.Tests.{clauseExists, instanceFits, literalExists}
 use Rattle.calculus.specs.States.{State, clauseAt, clauses}
 use Rattle.calculus.specs.Trails.{Entry, Origin, Trail, appendAtoms, atomOnTrail, atomsOf, background, decided, decisions, foreground, isDecision, propagated}
 use Rattle.trail.specs.Entries.{AllShort}

@@ -27,7 +27,7 @@ use Rattle.calculus.proofs.Levels.{clause-held, instance-sized, number-below}
 use Rattle.calculus.specs.Class.{Limited, withinLimits}
 use Rattle.calculus.specs.Clauses.{complement, ground, noLiteral, sameLiteral}
 use Rattle.calculus.specs.Merging.{Reason, merge, ownPairs, reason, reasonLiterals, resolvent}
-use Rattle.calculus.specs.Asks.{instanceFits, lastIsPropagated, literalExists}
+use Rattle.calculus.specs.Tests.{instanceFits, lastIsPropagated, literalExists}
 use Rattle.calculus.specs.Rules.{lastLiteral, lastReason, literalInstance, next}
 use Rattle.calculus.specs.States.{Resolve, State, clauseAt, clauses, conflictOf, updated}
 use Rattle.calculus.specs.Trails.{Trail, foreground, propagated}

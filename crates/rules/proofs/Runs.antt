@@ -16,7 +16,7 @@ use Rattle.rules.specs.declared.Run.{Run}
 use Rattle.rules.specs.declared.Stepped.{Stepped}
 use Rattle.calculus.proofs.Levels.{clause-held}
 use Rattle.calculus.specs.Class.{Limited, withinLimits}
-use Rattle.calculus.specs.Asks.{clauseExists}
+use Rattle.calculus.specs.Tests.{clauseExists}
 use Rattle.calculus.specs.States.{State, clauseAt, clauses, conflictOf, stands, updated}
 use Rattle.calculus.specs.Trails.{Trail}
 use Rattle.clauses.proofs.Records.{packed-instanced-says, packed-says}

@@ -18,7 +18,7 @@ use Rattle.calculus.proofs.Class.{factored-limited}
 use Rattle.calculus.specs.Class.{Limited}
 use Rattle.calculus.specs.Clauses.{sameLiteral}
 use Rattle.calculus.specs.Merging.{factored}
-use Rattle.calculus.specs.Asks.{complementInConflict, literalExists}
+use Rattle.calculus.specs.Tests.{complementInConflict, literalExists}
 use Rattle.calculus.specs.Rules.{levelAfterSkip, literalInstance, next, withoutLast}
 use Rattle.calculus.specs.States.{Factorize, Grow, Skip, State, conflictOf}
 use Rattle.calculus.specs.Trails.{Entry, Trail, background, foreground, isDecision}

@@ -14,7 +14,7 @@ use Rattle.rules.specs.Answers.{RunOf}
 use Rattle.rules.specs.declared.Run.{Run}
 use Rattle.calculus.specs.Checks.{between}
 use Rattle.calculus.specs.Clauses.{groundAtoms}
-use Rattle.calculus.specs.Asks.{clauseExists, instanceFits}
+use Rattle.calculus.specs.Tests.{clauseExists, instanceFits}
 use Rattle.calculus.specs.States.{State, clauseAt, clauses}
 use Rattle.calculus.specs.Trails.{Trail, atomsOf}
 use Rattle.clauses.specs.Records.{clauseOf, packed}

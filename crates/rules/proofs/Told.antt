@@ -15,7 +15,7 @@ use Rattle.rules.specs.declared.Run.{Run}
 use Rattle.calculus.proofs.Answers.{answer-unique, judged-by, possible-none}
 use Rattle.calculus.proofs.Asks.{AllOk, pass}
 use Rattle.calculus.specs.Checks.{firstRefusal}
-use Rattle.calculus.specs.Asks.{answer, asks, notFalsePlace, question}
+use Rattle.calculus.proofs.Computed.{answer, asks, notFalsePlace, question}
 use Rattle.calculus.specs.Rules.{learnsAt, next}
 use Rattle.calculus.specs.States.{State, Step}
 use Rattle.constraint.proofs.Decided.{possible-decided}

@@ -2,7 +2,7 @@
 use mathlib.Core.Path.{_≡_, refl, subst, sym, ap, _∙_}
 use mathlib.Core.List.{List, map}
 use Rattle.basis.specs.Numbers.{whole}
-use Rattle.calculus.specs.Asks.{answer}
+use Rattle.calculus.proofs.Computed.{answer}
 use Rattle.calculus.specs.Conditions.{Judged}
 use Rattle.calculus.specs.Rules.{Answer}
 use Rattle.calculus.specs.Runs as runs

@@ -13,7 +13,7 @@ use Rattle.lists.specs.Lists.{allOf}
 use Rattle.clauses.specs.Counts.{Counts}
 use Rattle.trail.specs.Answers.{firstNumber, passes}
 use Rattle.calculus.specs.Clauses.{complement, ground, noLiteral, sameLiteral}
-use Rattle.calculus.specs.Asks.{firstFailing}
+use Rattle.calculus.specs.Tests.{firstFailing}
 use Rattle.calculus.specs.Trails.{Trail, onTrail}
 use Rattle.trail.proofs.Walks.{or-true}
 

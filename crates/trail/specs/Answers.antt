@@ -7,7 +7,7 @@ use Rattle.basis.specs.declared.Literal.{Literal}
 use Rattle.lists.specs.Lists.{allOf}
 use Rattle.calculus.specs.Clauses.{Clause, Instanced, sameLiteral, complement, ground}
 use Rattle.calculus.specs.Trails.{Trail, Entry, isLiteral, isFalse, undefined, levelOf, cut}
-use Rattle.calculus.specs.Asks.{firstFailing}
+use Rattle.calculus.specs.Tests.{firstFailing}
 use Rattle.calculus.specs.Rules.{literalInstance, backLevel}
 use Rattle.trail.specs.declared.LiteralsSeen.{LiteralsSeen}
 use Rattle.trail.specs.declared.LevelsSeen.{LevelsSeen}

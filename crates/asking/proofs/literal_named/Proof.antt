@@ -6,7 +6,7 @@ use lib.Dec.{leb}
 use lib.ListN.{take}
 use Rattle.basis.specs.Limits.{mostVariables}
 use Rattle.calculus.specs.Checks.{between}
-use Rattle.calculus.specs.Asks.{instanceFits}
+use Rattle.calculus.specs.Tests.{instanceFits}
 use Rattle.clauses.specs.Records.{clauseOf}
 use borrow.Author.Needs.{needs}
 use Rattle.asking.proofs.literal_named.Statement.{statement}

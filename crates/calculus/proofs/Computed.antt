@@ -1,60 +1,21 @@
--- What each rule asks, as checks that compute: Conditions.antt says the same in the paper's words, and a reader believes that. The functions
--- that look at numbers, literals and the conflict promise these checks.
+-- The rules as checks that compute, where a Boolean tells what is possible. What they say is what specs/Conditions.antt says in the paper's
+-- words: Asks.antt and Answers.antt prove it.
 use mathlib.Core.List.{List, [], _∷_, _++_}
-use mathlib.Core.Bool.{Bool, true, false, not, _&&_, _||_, cond}
+use mathlib.Core.Bool.{Bool, false, not, _&&_, _||_, cond}
 use Prim.Native.Nat.{ℕ, zero, suc, _+_, _-_}
 use lib.Dec.{eqb, leb, ltb}
 use lib.ListN.{length, getD}
 use Rattle.basis.specs.declared.Atom.{Atom}
-use Rattle.basis.specs.declared.Literal.{Literal}
 use Rattle.basis.specs.Limits.{mostVariables, mostLearned, mostConstants, mostEntries}
 use Rattle.basis.specs.Refusals.{accepted, aboveLimit, outOfRange, unknownRule, wrongMoment, noSuch, alreadyDefined, notFalse, notPossible, noEntry, wrongLiteral, notAbove, keptNotPossible, noRoom}
-use Rattle.lists.specs.Lists.{anyOf, allOf}
-use Rattle.calculus.specs.Checks.{between, Check, _or_, firstRefusal}
+use Rattle.lists.specs.Lists.{anyOf}
+use Rattle.calculus.specs.Checks.{Check, _or_, firstRefusal}
 use Rattle.calculus.specs.Class.{withinLimits}
-use Rattle.calculus.specs.Clauses.{Clause, Instanced, noLiteral, sameLiteral, ground, groundAtoms, complement}
+use Rattle.calculus.specs.Clauses.{noLiteral, sameLiteral, ground, groundAtoms, complement}
 use Rattle.calculus.specs.Rules.{Answer, backLevel, decidedLiteral, isOne, lastLiteral, literalInstance, next, otherInstances}
 use Rattle.calculus.specs.States.{State, Step, Propagate, Decide, Conflict, Resolve, Factorize, Skip, Backtrack, Grow, Unknown, clauses, clauseAt, stands, conflictOf}
-use Rattle.calculus.specs.Trails.{propagated, decided, foreground, background, Trail, undefined, isFalse, levelOf, cut, atomsOf}
-
--- ---- which numbers name something
-
-abbrev pub clauseExists : List Clause → ℕ → Bool
-clauseExists cs c = between 1 (length cs) c
-
-abbrev pub literalExists : Clause → ℕ → Bool
-literalExists C l = between 1 (length (C .literals)) l
-
--- A constant for each variable, each among the n constants
-abbrev pub instanceFits : ℕ → Clause → List ℕ → Bool
-instanceFits n C τ = eqb (length τ) (C .variables) && allOf (between 1 n) τ
-
--- ---- what the rules look at
-
--- Every literal with another instance than g is false.
-abbrev pub othersFalse : Trail → List ℕ → Literal → List Literal → Bool
-othersFalse t τ g ls = allOf (λ m. sameLiteral (ground τ m) g || isFalse t (ground τ m)) ls
-
-abbrev pub allFalse : Trail → List ℕ → List Literal → Bool
-allFalse t τ ls = allOf (λ m. isFalse t (ground τ m)) ls
-
-abbrev pub nonempty : Trail → Bool
-nonempty [] = false
-nonempty (e ∷ t) = true
-
-abbrev pub lastIsPropagated : Trail → Bool
-lastIsPropagated [] = false
-lastIsPropagated (foreground l (propagated c i τ) ∷ t) = true
-lastIsPropagated (foreground l (decided c i b τ) ∷ t) = false
-lastIsPropagated (background a ∷ t) = false
-
--- The last entry is a literal whose complement is in the conflict.
-abbrev pub complementInConflict : Instanced → Trail → Bool
-complementInConflict N [] = false
-complementInConflict N (foreground l o ∷ t) = anyOf (λ k. sameLiteral (complement l) (ground (N .instance) k)) (N .clause .literals)
-complementInConflict N (background a ∷ t) = false
-
--- ---- what each rule asks
+use Rattle.calculus.specs.Tests.{allFalse, clauseExists, complementInConflict, firstFailing, instanceFits, lastIsPropagated, literalExists, nonempty, othersFalse}
+use Rattle.calculus.specs.Trails.{undefined, isFalse, levelOf, cut, atomsOf}
 
 -- The atoms that a rule asks to be possible together: those of the trail, or of its kept part, and the clause's
 abbrev pub question : State → Step → List Atom
@@ -126,11 +87,6 @@ asks possible s (Grow n) =
     leb 1 n or noSuch ∷
     leb (s .constants + n) mostConstants or noRoom ∷ []
 asks possible s (Unknown r) = false or unknownRule ∷ []
-
--- The number, from 1, of the first that fails the test
-abbrev pub firstFailing : (Literal → Bool) → List Literal → ℕ
-firstFailing f [] = zero
-firstFailing f (l ∷ ls) = let r = suc (firstFailing f ls) in cond (f l) r 1
 
 -- "Refusal 12 names the first literal from the left whose instance is not false, of those that must be."
 abbrev pub notFalsePlace : State → Step → ℕ
