@@ -141,7 +141,7 @@ by-the-rule r s x a S h =
     record {
       acceptance = (λ z. exactly .0 (sym number-is ∙ z), λ k. number-is ∙ exactly .1 k);
       next-state = λ z. ap (λ (q : Answered). q .state) e ∙ ap packedState (j .next-state (sym number-is ∙ z));
-      number = rw number-is (j .first-lacking);
+      first-lacking = rw number-is (j .first-lacking);
       named = λ z. rw place-is (j .named (sym number-is ∙ z));
       no-place = λ z. place-is ∙ j .no-place (λ q. z (number-is ∙ q));
     }

@@ -88,7 +88,7 @@ pub record RightAnswer (s : states.State) (x : states.Step) (a : Answered) : Typ
   pub acceptance : (a .number ≡ accepted) ↔ Allowed whole s x
   pub next-state : a .number ≡ accepted → a .state ≡ packedState (next s x)
   -- The number of the first condition that does not hold, and the place: of refusal 12 a literal's, of all others 0
-  pub number : FirstLacking (a .number) (conditions whole s x)
+  pub first-lacking : FirstLacking (a .number) (conditions whole s x)
   pub named : a .number ≡ notFalse → NamesNotFalse s x (a .place)
   pub no-place : ¬ (a .number ≡ notFalse) → a .place ≡ 0
 
