@@ -81,7 +81,7 @@ pub record Demand1 : Type 0 where
 
 -- ---- 2. "A step is accepted exactly when the side conditions of its SCL(T) rule hold, as document 01 reads them over whole numbers, and there is
 -- room; the next state is the one the rule names. From admitted clauses, a run that reaches a conflict without foreground literals shows that
--- no reading of the predicates over the whole numbers makes every input clause true."
+-- no reading of the predicates over the whole numbers makes every input clause true." Document 01 is the paper.
 
 -- Of the step x at the state s
 pub record RightAnswer (s : states.State) (x : states.Step) (a : Answered) : Type 0 where
