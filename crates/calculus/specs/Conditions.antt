@@ -57,8 +57,10 @@ infix 68 _otherwise_
 abbrev pub _otherwise_ : Type 0 → ℕ → Condition
 P otherwise n = record { Holds = P; refusal = n }
 
--- The conditions of each rule in the order in which they are tried
+-- The conditions of each rule in the order in which they are tried: the rule's sentence, and at each condition the words of its refusal
 abbrev pub conditions : Numbers → State → Step → List Condition
+-- "1 Propagate (clause, literal L, instance). No conflict. L's instance is undefined; every literal with another instance is false; trail atoms
+-- and the clause's atoms together are possible."
 conditions N s (Propagate c l τ) =
     let C = clauseAt (clauses s) c in
     let L = ground τ (literalAt C l) in
@@ -76,6 +78,7 @@ conditions N s (Propagate c l τ) =
     Possible N (s .constants) (atomsOf (s .trail) ++ groundAtoms τ (C .atoms)) otherwise notPossible ∷
     -- "no room: .. trail"
     (length (next s (Propagate c l τ) .trail) ≤ mostEntries) otherwise noRoom ∷ []
+-- "2 Decide (clause, literal, sign, instance). No conflict. The atom of the literal, with the sign given, is undefined."
 conditions N s (Decide c l g τ) =
     let C = clauseAt (clauses s) c in
     (length τ ≤ mostVariables) otherwise aboveLimit ∷
@@ -85,6 +88,7 @@ conditions N s (Decide c l g τ) =
     (Names (clauses s) c × (Names (C .literals) l × InstanceOf (s .constants) C τ)) otherwise noSuch ∷
     Undefined (s .trail) (decidedLiteral C (l - 1) (isOne g) τ) otherwise alreadyDefined ∷
     (length (next s (Decide c l g τ) .trail) ≤ mostEntries) otherwise noRoom ∷ []
+-- "3 Conflict (clause, instance). No conflict. All literals false; trail and clause atoms together possible."
 conditions N s (Conflict c τ) =
     let C = clauseAt (clauses s) c in
     (length τ ≤ mostVariables) otherwise aboveLimit ∷
@@ -92,6 +96,7 @@ conditions N s (Conflict c τ) =
     (Names (clauses s) c × InstanceOf (s .constants) C τ) otherwise noSuch ∷
     ((m : Literal) → List·Memᴰ m (C .literals) → False (s .trail) (ground τ m)) otherwise notFalse ∷
     Possible N (s .constants) (atomsOf (s .trail) ++ groundAtoms τ (C .atoms)) otherwise notPossible ∷ []
+-- "4 Resolve (literal L'). The last entry is a propagated literal, the complement of L'."
 conditions N s (Resolve l) =
     let K = conflictOf (s .conflict) in
     -- "none for 4 to 7"
@@ -103,6 +108,7 @@ conditions N s (Resolve l) =
     (complement (lastLiteral (s .trail)) ≡ literalInstance K l) otherwise wrongLiteral ∷
     -- "no room: clause limits counted after merging"
     Limited (conflictOf (next s (Resolve l) .conflict) .clause) otherwise noRoom ∷ []
+-- "5 Factorize (two different literals with the same instance)."
 conditions N s (Factorize i j) =
     let K = conflictOf (s .conflict) in
     (s .conflict ≡ some K) otherwise wrongMoment ∷
@@ -110,6 +116,7 @@ conditions N s (Factorize i j) =
     (Names (K .clause .literals) i × (Names (K .clause .literals) j × (¬ (i ≡ j)))) otherwise noSuch ∷
     -- "instances differ"
     (literalInstance K i ≡ literalInstance K j) otherwise wrongLiteral ∷ []
+-- "6 Skip. The last entry goes, if it is an atom or if its complement is not in the conflict."
 conditions N s Skip =
     let K = conflictOf (s .conflict) in
     (s .conflict ≡ some K) otherwise wrongMoment ∷
@@ -117,6 +124,8 @@ conditions N s Skip =
     (¬ (s .trail ≡ [])) otherwise noEntry ∷
     -- "complement in the conflict"
     ComplementNotIn K (s .trail) otherwise wrongLiteral ∷ []
+-- "7 Backtrack (literal L, the others D). L's instance is not in D; i is the largest level in D, 0 if D is empty; L's level is above i. Kept
+-- atoms and conflict atoms together are possible."
 conditions N s (Backtrack l) =
     let K = conflictOf (s .conflict) in
     let D = otherInstances K l in
@@ -131,6 +140,7 @@ conditions N s (Backtrack l) =
     Possible N (s .constants) (atomsOf (cut i (s .trail)) ++ groundAtoms (K .instance) (K .clause .atoms)) otherwise keptNotPossible ∷
     -- "no room: .. trail, learned clauses"
     ((length (next s (Backtrack l) .trail) ≤ mostEntries) × (length (s .learned) < mostLearned)) otherwise noRoom ∷ []
+-- "8 Grow (count). No conflict."
 conditions N s (Grow n) =
     (s .conflict ≡ none) otherwise wrongMoment ∷
     -- "Grow by 0"
