@@ -148,13 +148,9 @@ first-not-false t τ MustBe f failing passing ls h =
 not-false-once : (t : Trail) (τ : List ℕ) (MustBe : Literal → Type 0) (ls : List Literal) (p q : ℕ) → FirstNotFalse t τ MustBe ls p → FirstNotFalse t τ MustBe ls q → p ≡ q
 not-false-once t τ MustBe ls p q a b =
     let below : (p q : ℕ) → FirstNotFalse t τ MustBe ls p → FirstNotFalse t τ MustBe ls q → ¬ (p < q) = λ p q a b h. a .is-not (b .those-before p (a .from-one) h (a .must-be)) in
-    elim (ℕ-discrete p q) [
-      | yes e ↦ e
-      | no e ↦ absurd (below q p b a (omega (arith, at-least p q (below p q a b))))
-    ]
-  where
-    at-least : (p q : ℕ) → ¬ (p < q) → q ≤ p
-    at-least p q h = elim (ℕ-discrete (q - p) 0) [ yes e ↦ omega arith | no e ↦ absurd (h (omega arith)) ]
+    let h = below p q a b in
+    let k = below q p b a in
+    omega arith
 
 named-once : (s : State) (x : Step) (p q : ℕ) → NamesNotFalse s x p → NamesNotFalse s x q → p ≡ q
 named-once s (Propagate c l τ) p q a b = not-false-once (s .trail) τ _ (clauseAt (clauses s) c .literals) p q a b

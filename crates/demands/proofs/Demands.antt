@@ -6,7 +6,6 @@ use Prim.Native.Nat.{ℕ, _≤_}
 use native.Mathlib.Decide.{ℕ-discrete, decLt}
 use native.Mathlib.Omega.{arith}
 use lib.ListN.{length, take, drop}
-use lib.Seq.{take-append-seam}
 use Rattle.basis.specs.Numbers.{whole}
 use Rattle.basis.specs.Refusals.{accepted, noRoom}
 use Rattle.calculus.specs.Admission.{fresh}
@@ -29,8 +28,9 @@ use Rattle.listing.specs.Lines.{badLine, lastLine}
 use Rattle.listing.specs.Listing.{Ends, Listing, Tried, badFile, goodFile, mostListing, refused, through, went, withFile, withStep}
 use Rattle.listing.proofs.Every.{answers-all, every-file-listed}
 use Rattle.listing.proofs.NoModel.{tried-run}
+use Rattle.listing.proofs.Once.{printed-once}
 use Rattle.judging.specs.Judging.{Lists}
-use Rattle.judging.proofs.EndToEnd.{end-to-end}
+use Rattle.judging.proofs.EndToEnd.{end-to-end, written-text}
 use Rattle.judging.proofs.Judging.{leaves-once}
 use Rattle.judging.specs.declared.Written.{Written}
 use Rattle.judging.specs.declared.Written.the-variants.{Bytes, Short}
@@ -76,10 +76,6 @@ tried-in-table [] through = omega arith
 tried-in-table (x ∷ xs) {s} (refused a j z) = number-in-table whole s x a j
 tried-in-table (x ∷ xs) (went a j z t) = tried-in-table xs t
 
--- What was written is the text.
-written-text : {n : ℕ} (d : List ℕ) {d′ w : List ℕ} → n ≡ length w → d′ ≡ w ++ drop n d → take n d′ ≡ w
-written-text {n} d {d′} {w} count left = ap (take n) left ∙ ap (λ (i : ℕ). take i (w ++ drop n d)) count ∙ take-append-seam w (drop n d)
-
 file-right : (s d d′ : List ℕ) (r : Written) → Lists s d d′ r → FileRight s d d′ r
 file-right s d d′ Short (h, e) = (h, e)
 file-right s d d′ (Bytes n k p) (room, ends, (w, listing, count, left)) = go ends (file s) refl (every-file s)
@@ -87,16 +83,12 @@ file-right s d d′ (Bytes n k p) (room, ends, (w, listing, count, left)) = go e
     text : take n d′ ≡ w
     text = written-text d count left
 
-    bad-line : {w : List ℕ} → Listing s w → (number place : ℕ) → file s ≡ bad number place → w ≡ badLine number place
-    bad-line (badFile m q f) number place g = let m-is : m ≡ number = cc in let q-is : q ≡ place = cc in λ i. badLine (m-is i) (q-is i)
-    bad-line (goodFile F next e f t) number place g = absurd (let z : _≡_ {A = ℕ} 0 1 = cc in omega arith)
-
     go : {k p : ℕ} → Ends (plain whole) s k p → (g : Got File) → file s ≡ g → Outcome s g → FileAnswered s (take n d′) k p
     go (withFile number place f) (got F next) g o = absurd (let z : _≡_ {A = ℕ} 0 1 = cc in omega arith)
     go (withFile number place f) (bad m q) g o =
         let m-is : m ≡ number = cc in
         let q-is : q ≡ place = cc in
-        FileAnswered.refused f (rw (sym m-is) (o .least)) (rw (sym m-is) (o .most)) (rw (sym q-is) (o .in-file)) (text ∙ bad-line listing number place f)
+        FileAnswered.refused f (rw (sym m-is) (o .least)) (rw (sym m-is) (o .most)) (rw (sym q-is) (o .in-file)) (text ∙ printed-once (plain whole) (answers.answer-unique whole) lastLine s w (badLine number place) listing (badFile number place f))
     go (withStep F next e f t) (bad m q) g o = absurd (let z : _≡_ {A = ℕ} 0 1 = cc in omega arith)
     go (withStep F next e f t) (got G m) g o = FileAnswered.listed G (g ∙ ap (got G) (o .1)) (subst (Listing s) (sym text) listing) (tried-in-table (F .steps) t)
 

@@ -21,12 +21,12 @@ use Rattle.runfile.proofs.Given.{every-file}
 use Rattle.runfile.proofs.Short.{good-files-short}
 
 -- x ≤ 0 and x ≥ 0 for each variable x up to n
-abbrev bounded : ℕ → List Atom
-bounded zero = []
-bounded (suc n) = record { p = suc n; q = 0; c = pos 0 } ∷ record { p = 0; q = suc n; c = pos 0 } ∷ bounded n
+abbrev bothBounds : ℕ → List Atom
+bothBounds zero = []
+bothBounds (suc n) = record { p = suc n; q = 0; c = pos 0 } ∷ record { p = 0; q = suc n; c = pos 0 } ∷ bothBounds n
 
 abbrev fullClause : Clause
-fullClause = record { variables = mostVariables; atoms = bounded mostVariables; literals = replicate mostLiterals (record { positive = true; predicate = 1; x = 1; y = 1; z = 1 }) }
+fullClause = record { variables = mostVariables; atoms = bothBounds mostVariables; literals = replicate mostLiterals (record { positive = true; predicate = 1; x = 1; y = 1; z = 1 }) }
 
 abbrev fullStep : Step
 fullStep = Decide 1 1 1 (replicate mostVariables 1)
