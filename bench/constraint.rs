@@ -7,7 +7,7 @@ use std::time::{Duration, Instant};
 #[link(name = "constraint_export", kind = "static")]
 extern "C" {
     // A slice is handed over as its start and its length.
-    fn constraint_possible(constants: u8, count: u8, places: *const u8, places_len: usize, bounds: *const i32, bounds_len: usize) -> u32;
+    fn drf_possible(constants: u8, count: u8, places: *const u8, places_len: usize, bounds: *const i32, bounds_len: usize) -> u32;
 }
 
 const CONSTANTS: usize = 16;
@@ -23,7 +23,7 @@ struct Set {
 
 fn ours(set: &Set) -> bool {
     let answer = unsafe {
-        constraint_possible(CONSTANTS as u8, set.bounds.len() as u8, set.places.as_ptr(), set.places.len(), set.bounds.as_ptr(), set.bounds.len())
+        drf_possible(CONSTANTS as u8, set.bounds.len() as u8, set.places.as_ptr(), set.places.len(), set.bounds.as_ptr(), set.bounds.len())
     };
     assert!(answer <= 1, "refused: {answer}");
     answer == 1

@@ -1,10 +1,10 @@
 //! A file through the proved tool and through the independent checker: what the two tell differently.
 
-use crate::{inspect, judge, ROOM};
 use checker::file::BadFile;
-use checker::listing::{bad_file, final_state, run, Run};
+use checker::listing::{self, bad_file, final_state, run, Run};
 use checker::rules::ANSWERS;
 use checker::step::RULE_NAMES;
+use drf::{inspect, judge, Short, Told, Verdict, MOST_INSPECTION};
 use std::panic::{catch_unwind, AssertUnwindSafe};
 
 /// What the checker makes of a file
@@ -25,11 +25,11 @@ impl Default for Buffer {
 
 impl Buffer {
     pub fn of(byte: u8) -> Buffer {
-        Buffer { bytes: vec![byte; ROOM], byte }
+        Buffer { bytes: vec![byte; MOST_INSPECTION], byte }
     }
 
     /// What the checker makes of a file; or, where the two don't tell the same, the first thing told differently: the listing, the state at
-    /// the end, number and place of the last answer, or the bytes past the text, which are to stay. A checker that panics is a difference too.
+    /// the end, the verdict, number and place of the last answer, or the bytes past the text, which are to stay. A checker that panics is a difference too.
     pub fn compare(&mut self, file: &[u8]) -> Result<Made, String> {
         let compared = catch_unwind(AssertUnwindSafe(|| self.compare_made(file)));
         compared.unwrap_or_else(|_| Err("a panic".to_string()))
@@ -41,33 +41,29 @@ impl Buffer {
             Err(bad) => (bad_file(*bad), String::new()),
             Ok(run) => (run.listing(), final_state(&run.state)),
         };
-        self.lend("listing", &listing, |out| judge(file, out).map_or(0, <[u8]>::len))?;
-        let mut answer = (0, 0);
-        self.lend("listing and state", &(listing + &state), |out| {
-            inspect(file, out).map_or(0, |told| {
-                answer = (told.number, told.place);
-                told.text.len()
-            })
-        })?;
-        let expected = last_answer(&made);
-        if answer != expected {
-            let (number, place) = expected;
-            return Err(format!("{} at {}, not {number} at {place}", answer.0, answer.1));
-        }
+        let ends = (last_verdict(&made), last_answer(&made));
+        self.lend("listing", &listing, ends, |out| judge(file, out))?;
+        self.lend("listing and state", &(listing + &state), ends, |out| inspect(file, out))?;
         Ok(made)
     }
 
-    /// A call that writes a text to the front of the buffer and tells its length
+    /// A call that writes a text to the front of the buffer, and tells of it how it ends: the verdict, number and place
     fn lend(
         &mut self,
         name: &str,
         expected: &str,
-        call: impl FnOnce(&mut [u8]) -> usize,
+        ends: (Verdict, (u8, u64)),
+        call: impl FnOnce(&mut [u8]) -> Result<Told, Short>,
     ) -> Result<(), String> {
-        let count = call(&mut self.bytes);
+        let (count, told_ends) = match call(&mut self.bytes) {
+            Ok(told) => (told.text.len(), Some((told.verdict, (told.number, told.place)))),
+            Err(Short) => (0, None),
+        };
         let (text, rest) = self.bytes.split_at_mut(count);
         let told = if text != expected.as_bytes() {
             Err(format!("{name}, {}", first_apart(&String::from_utf8_lossy(text), expected)))
+        } else if told_ends != Some(ends) {
+            Err(format!("{name}, its end: {told_ends:?}, not {ends:?}"))
         } else if !is_all(rest, self.byte) {
             rest.fill(self.byte);
             Err(format!("{name}: bytes past the text are not as they were"))
@@ -101,13 +97,23 @@ fn is_all(bytes: &[u8], byte: u8) -> bool {
     bytes.chunks(same.len()).all(|chunk| *chunk == same[..chunk.len()])
 }
 
+/// The checker's word for how a file ends
+fn last_verdict(made: &Made) -> Verdict {
+    match made.as_ref().map(Run::verdict) {
+        Err(_) => Verdict::BadFile,
+        Ok(listing::Verdict::Refuted) => Verdict::Refuted,
+        Ok(listing::Verdict::Stopped) => Verdict::Stopped,
+        Ok(listing::Verdict::Open) => Verdict::Open,
+    }
+}
+
 /// Number and place of the answer to the last step tried, or of a bad file's refusal; 0 and 0 where nothing was refused.
-fn last_answer(made: &Made) -> (u64, u64) {
+fn last_answer(made: &Made) -> (u8, u64) {
     let refusal = match made {
         Err(bad) => Some(bad.refusal),
         Ok(run) => run.tried.last().and_then(|tried| tried.answer.err()),
     };
-    refusal.map_or((0, 0), |refusal| (refusal.number.into(), refusal.place as u64))
+    refusal.map_or((0, 0), |refusal| (refusal.number, refusal.place as u64))
 }
 
 /// What files came to: how many, their steps, and which answers each rule was given.

@@ -3,7 +3,7 @@
 use checker::coverage::Coverage;
 use checker::generate::generate;
 use compare::beside::Buffer;
-use compare::{inspect, judge};
+use drf::{inspect, judge, MOST_INSPECTION, MOST_LISTING};
 use std::ops::Range;
 use std::thread;
 
@@ -49,13 +49,14 @@ fn lent_bytes() {
         for buffer in &mut buffers {
             assert_eq!(buffer.compare(&file).err(), None, "seed {seed}");
         }
-        for room in [0, 1, 26, 1_000] {
+        for room in [0, 1, 26, 1_000, MOST_LISTING - 1] {
             let mut out = vec![0xA5; room];
             assert!(
-                judge(&file, &mut out).is_none() && inspect(&file, &mut out).is_none(),
+                judge(&file, &mut out).is_err() && inspect(&file, &mut out).is_err(),
                 "seed {seed}"
             );
             assert!(out.iter().all(|&b| b == 0xA5), "seed {seed}");
         }
+        assert!(inspect(&file, &mut vec![0; MOST_INSPECTION - 1]).is_err(), "seed {seed}");
     }
 }

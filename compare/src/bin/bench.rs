@@ -12,7 +12,8 @@
 use checker::generate::generate;
 use checker::listing::{listing, run};
 use compare::steps::Near;
-use compare::{judge, steps, ROOM};
+use compare::steps;
+use drf::{judge, MOST_LISTING};
 use std::hint::black_box;
 use std::time::{Duration, Instant};
 
@@ -55,10 +56,10 @@ fn seconds(call: &mut dyn FnMut(), times: usize) -> f64 {
 
 /// Ours on a file
 fn ours(file: &[u8]) -> impl FnMut() + '_ {
-    let mut out = vec![0; ROOM];
-    assert_eq!(judge(file, &mut out).expect("room"), listing(file).as_bytes());
+    let mut out = vec![0; MOST_LISTING];
+    assert_eq!(judge(file, &mut out).expect("room").text, listing(file).as_bytes());
     move || {
-        black_box(judge(black_box(file), &mut out));
+        let _ = black_box(judge(black_box(file), &mut out));
     }
 }
 

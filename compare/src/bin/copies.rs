@@ -1,6 +1,7 @@
 //! Counts what the proved tool copies in a step: all calls of the C library's `memcpy` and `memmove`, which this program defines itself.
 
-use compare::{judge, steps, ROOM};
+use compare::steps;
+use drf::{judge, MOST_LISTING};
 use std::sync::atomic::{AtomicUsize, Ordering::Relaxed};
 
 static COPIES: AtomicUsize = AtomicUsize::new(0);
@@ -57,7 +58,7 @@ fn counted(file: &[u8], out: &mut [u8]) -> [usize; 3] {
 }
 
 fn main() {
-    let mut out = vec![0; ROOM];
+    let mut out = vec![0; MOST_LISTING];
     println!("{:<50} copies   bytes  tables", "in a step");
     for near in steps::all() {
         let (less, more) = (counted(&near.without, &mut out), counted(&near.with, &mut out));

@@ -47,12 +47,7 @@ fn coded(answer: Answer) -> u32
 
 // The constraint test.
 #[no_mangle]
-pub extern "C" fn constraint_possible(
-    constants: u8,
-    count: u8,
-    places: &[u8],
-    bounds: &[i32],
-) -> u32
+pub extern "C" fn drf_possible(constants: u8, count: u8, places: &[u8], bounds: &[i32]) -> u32
     ensures { λ r. ⌜ Tells constants count (now (places .entry)) (now (bounds .entry)) r ⌝ }
 {
     let atoms = gathered(places, bounds);

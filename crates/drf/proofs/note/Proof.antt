@@ -1,8 +1,8 @@
--- `judge_export::note` meets its contract.
+-- `drf::note` meets its contract.
 use borrow.Author.Tests.{le-leb, lt-leb}
 use borrow.Author.Needs.{needs}
-use Rattle.judge_export.proofs.note.Statement.{statement}
-use Rattle.judge_export.proofs.note.Tie as tie
+use Rattle.drf.proofs.note.Statement.{statement}
+use Rattle.drf.proofs.note.Tie as tie
 
 returns : tie.Need-returns
 returns c = simp (c .before .before .answer .given .1, lt-leb _ _ (c .if1 .taken))

@@ -20,17 +20,17 @@ abbrev pub noted : Written → List ℕ → List ℕ
 noted (Bytes n k p) l = cond (leb 2 (length l)) (sets l 0 (k ∷ p ∷ [])) l
 noted Short l = l
 
--- `judge_file` of the file s, with the buffer d
-abbrev pub Judges : (s d d′ : List ℕ) → ℕ → Type 0
-Judges s d d′ r = (a : Written) × Lists s d d′ a × (r ≡ count a)
+-- `drf_judge` of the file s, with the buffer d and the slice l
+abbrev pub Judges : (s d l d′ l′ : List ℕ) → ℕ → Type 0
+Judges s d l d′ l′ r = (a : Written) × Lists s d d′ a × (r ≡ count a) × (l′ ≡ noted a l)
 
--- `inspect_file` of the file s, with the buffer d and the slice l
+-- `drf_inspect` of the file s, with the buffer d and the slice l
 abbrev pub Inspects : (s d l d′ l′ : List ℕ) → ℕ → Type 0
 Inspects s d l d′ l′ r = (a : Written) × Shows s d d′ a × (r ≡ count a) × (l′ ≡ noted a l)
 
 -- The numbers, and what every lent byte holds afterwards, are unique. Proved in proofs/Unique.antt.
 abbrev pub JudgesOnce : Type 0
-JudgesOnce = (s d d₁ d₂ : List ℕ) (r₁ r₂ : ℕ) → Judges s d d₁ r₁ → Judges s d d₂ r₂ → (r₁ ≡ r₂) × (d₁ ≡ d₂)
+JudgesOnce = (s d l d₁ d₂ l₁ l₂ : List ℕ) (r₁ r₂ : ℕ) → Judges s d l d₁ l₁ r₁ → Judges s d l d₂ l₂ r₂ → (r₁ ≡ r₂) × (d₁ ≡ d₂) × (l₁ ≡ l₂)
 
 abbrev pub InspectsOnce : Type 0
 InspectsOnce = (s d l d₁ d₂ l₁ l₂ : List ℕ) (r₁ r₂ : ℕ) → Inspects s d l d₁ l₁ r₁ → Inspects s d l d₂ l₂ r₂ → (r₁ ≡ r₂) × (d₁ ≡ d₂) × (l₁ ≡ l₂)

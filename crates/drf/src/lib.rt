@@ -1,6 +1,6 @@
 // Judging for programs in C or Rust: slices are lent, and the answer is numbers.
 ghost use mathlib.Core.Path.{_≡_};
-ghost use Rattle.judge_export.specs.Export.{Inspects, Judges, count, noted};
+ghost use Rattle.drf.specs.Export.{Inspects, Judges, count, noted};
 use judging::Written;
 
 fn counted(answer: Written) -> u64
@@ -36,18 +36,19 @@ fn note(answer: Written, out: &mut [u64])
     }
 }
 
-// The listing of a file, at the front of the buffer
+// The listing of a file, at the front of the buffer; number and place at the front of the other slice
 #[no_mangle]
-pub extern "C" fn judge_file(file: &[u8], out: &mut [u8]) -> u64
-    ensures { λ r. ⌜ Judges (now (file .entry)) (now (out .entry)) (now (out .exit)) r ⌝ }
+pub extern "C" fn drf_judge(file: &[u8], out: &mut [u8], ends: &mut [u64]) -> u64
+    ensures { λ r. ⌜ Judges (now (file .entry)) (now (out .entry)) (now (ends .entry)) (now (out .exit)) (now (ends .exit)) r ⌝ }
 {
     let answer = judging::judge(file, out);
+    note(answer, ends);
     counted(answer)
 }
 
-// The listing and the final state of a file, at the front of the buffer; number and place at the front of the other slice
+// The same, with the final state after the listing
 #[no_mangle]
-pub extern "C" fn inspect_file(file: &[u8], out: &mut [u8], ends: &mut [u64]) -> u64
+pub extern "C" fn drf_inspect(file: &[u8], out: &mut [u8], ends: &mut [u64]) -> u64
     ensures { λ r. ⌜ Inspects (now (file .entry)) (now (out .entry)) (now (ends .entry)) (now (out .exit)) (now (ends .exit)) r ⌝ }
 {
     let answer = judging::inspect(file, out);

@@ -1,0 +1,3 @@
+//! What the command `drf` is made of. The proved core decides; what is here carries.
+
+pub mod text;

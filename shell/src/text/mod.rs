@@ -1,0 +1,1 @@
+//! The text form of a run file: docs/FORMAT.md says what it is.
