@@ -1,8 +1,7 @@
 // The program for reviewers: reads a run file from standard input and prints its listing, and then the final state.
 use judging::MOST_INSPECTION;
 use judging::Written;
-use libc::STDIN_FILENO;
-use libc::STDOUT_FILENO;
+use streams::Read;
 
 // "A valid file is below 65,536 bytes; the program reads no more."
 const MOST_READ: usize = 65535;
@@ -17,7 +16,7 @@ fn print_inspection(file: &[u8]) {
             number,
             place,
         } => {
-            io::write_all(STDOUT_FILENO, &text[..count]);
+            streams::print(b"inspect", &text[..count]);
         }
         Written::Short => {}
     }
@@ -25,6 +24,9 @@ fn print_inspection(file: &[u8]) {
 
 fn main() {
     let mut file = [0u8; MOST_READ];
-    let n = io::read_full(STDIN_FILENO, &mut file);
-    print_inspection(&file[..n]);
+    let read = streams::read_input(b"inspect", &mut file);
+    match read {
+        Read::Bytes { count } => print_inspection(&file[..count]),
+        Read::Failed => {}
+    }
 }

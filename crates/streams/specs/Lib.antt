@@ -1,0 +1,2 @@
+-- Standard input read into a lent buffer.
+pub mod Streams

@@ -1,0 +1,44 @@
+// Standard input, output and error for programs: a fault of reading or writing is one line on standard error.
+ghost use Rattle.streams.specs.Streams.{Within};
+use libc::STDERR_FILENO;
+use libc::STDIN_FILENO;
+use libc::STDOUT_FILENO;
+
+// What reading answers: how many bytes stand at the buffer's front; or that a read failed, and then none of them counts.
+pub enum Read {
+    Bytes { count: usize },
+    Failed,
+}
+
+// A program's name and what failed, as one line
+fn tell(program: &[u8], fault: &[u8]) {
+    io::write_all(STDERR_FILENO, program);
+    io::write_all(STDERR_FILENO, fault);
+}
+
+// Reads standard input to its end, or to the buffer's. A read that a signal interrupts counts as one that failed.
+pub fn read_input(program: &[u8], buffer: &mut [u8]) -> Read
+    ensures { λ r. ⌜ Within (now (buffer .exit)) r ⌝ }
+{
+    let mut at: usize = 0;
+    while at < buffer.len() {
+        let got = libc::read(STDIN_FILENO, &mut buffer[at..]);
+        if got < 0 {
+            tell(program, b": standard input can't be read\n");
+            return Read::Failed;
+        }
+        let more = io::count(got, &buffer[at..]);
+        if more == 0 {
+            break;
+        }
+        at += more;
+    }
+    Read::Bytes { count: at }
+}
+
+// Writes a text to standard output.
+pub fn print(program: &[u8], text: &[u8]) {
+    if !io::write_all(STDOUT_FILENO, text) {
+        tell(program, b": standard output can't be written\n");
+    }
+}
