@@ -1,4 +1,13 @@
-//! The proved judge of run files behind safe functions. `include/drf.h` declares the same two for C and says what holds of both.
+//! The proved judge of run files behind safe functions. `include/drf.h` declares the same two for C and says what holds of both;
+//! `docs/INTEGRATION.md` says what is proved of them, and what of this crate is not.
+//!
+//! ```
+//! let mut out = vec![0; drf::MOST_LISTING];
+//! let told = drf::judge(b"DRF", &mut out)?;
+//! assert_eq!(told.text, b"bad file 1 3\n");
+//! assert_eq!((told.verdict, told.number, told.place), (drf::Verdict::BadFile, drf::refusal::ENDS_INSIDE, 3));
+//! # Ok::<(), drf::Short>(())
+//! ```
 
 use std::fmt;
 
@@ -10,6 +19,33 @@ pub const MOST_LISTING: usize = 54_008;
 
 /// A buffer of so many bytes has room for every listing with its final state, and a shorter one is refused.
 pub const MOST_INSPECTION: usize = 136_078;
+
+/// The stack of a thread that calls, in bytes; file and buffer are not in it. What a thread has where nothing is said is enough:
+/// `std::thread` gives 2 MiB.
+pub const STACK: usize = 131_072;
+
+/// The refusal numbers. `docs/REFUSALS.md` says when each is given.
+pub mod refusal {
+    pub const ACCEPTED: u8 = 0;
+    pub const ENDS_INSIDE: u8 = 1;
+    pub const WRONG_MARK: u8 = 2;
+    pub const ABOVE_LIMIT: u8 = 3;
+    pub const OUT_OF_RANGE: u8 = 4;
+    pub const OCCURS_NOWHERE: u8 = 5;
+    pub const LACKS_BOUND: u8 = 6;
+    pub const UNKNOWN_RULE: u8 = 7;
+    pub const SURPLUS: u8 = 8;
+    pub const WRONG_MOMENT: u8 = 9;
+    pub const NO_SUCH: u8 = 10;
+    pub const ALREADY_DEFINED: u8 = 11;
+    pub const NOT_FALSE: u8 = 12;
+    pub const NOT_POSSIBLE: u8 = 13;
+    pub const NO_ENTRY: u8 = 14;
+    pub const WRONG_LITERAL: u8 = 15;
+    pub const NOT_ABOVE: u8 = 16;
+    pub const KEPT_NOT_POSSIBLE: u8 = 17;
+    pub const NO_ROOM: u8 = 18;
+}
 
 extern "C" {
     // A slice is handed over as its start and its length.
@@ -34,7 +70,7 @@ extern "C" {
 /// An exported function
 type Exported = unsafe extern "C" fn(*const u8, usize, *mut u8, usize, *mut u64, usize) -> u64;
 
-/// The last line of a listing
+/// The last line of a listing. It is shown in the listing's words.
 #[derive(Clone, Copy, Debug, PartialEq, Eq, PartialOrd, Ord, Hash)]
 pub enum Verdict {
     /// The conflict standing has no literals: the file's clauses have no model.
@@ -47,13 +83,24 @@ pub enum Verdict {
     BadFile,
 }
 
+impl fmt::Display for Verdict {
+    fn fmt(&self, to: &mut fmt::Formatter) -> fmt::Result {
+        to.write_str(match self {
+            Verdict::Refuted => "refuted",
+            Verdict::Open => "open",
+            Verdict::Stopped => "stopped",
+            Verdict::BadFile => "bad file",
+        })
+    }
+}
+
 /// What is told of a file
 #[derive(Clone, Copy, Debug, PartialEq, Eq)]
 pub struct Told<'a> {
     /// At the front of the buffer lent; the bytes past it are as they were.
     pub text: &'a [u8],
     pub verdict: Verdict,
-    /// Of the answer to the last step tried; of a bad file its refusal's. 0 where nothing was refused.
+    /// Of the answer to the last step tried, also where the verdict is `Refuted`; of a bad file its refusal's. 0 where nothing was refused.
     pub number: u8,
     /// Of refusal 12 the literal, of a bad file the byte; else 0.
     pub place: u64,
@@ -83,8 +130,10 @@ pub fn inspect<'a>(file: &[u8], out: &'a mut [u8]) -> Result<Told<'a>, Short> {
 
 fn told<'a>(exported: Exported, file: &[u8], out: &'a mut [u8]) -> Result<Told<'a>, Short> {
     let mut ends = [0; 2];
-    // SAFETY: each pointer is that of a slice with the length beside it, alive and, where it is written through, lent to nobody else for
-    // the call. The function keeps no pointer, reads and writes within the lengths, and neither unwinds nor blocks: it is proved.
+    // SAFETY: each pointer is a slice's own, with its length beside it: never null, and aligned. The three slices are alive until the call
+    // returns and do not overlap, since `out` and `ends` are borrowed mutably. The function reads within the first, writes within the
+    // others, keeps no pointer and returns: that is proved of it. A thread with less than `STACK` bytes left is ended at the guard page
+    // below its stack, which is no undefined behaviour: frames are entered page by page.
     let count = unsafe {
         exported(
             file.as_ptr(),
@@ -104,7 +153,11 @@ fn told<'a>(exported: Exported, file: &[u8], out: &'a mut [u8]) -> Result<Told<'
     Ok(Told { text, verdict: verdict(text), number: number as u8, place })
 }
 
-/// A step's line begins with its number, so the first line that does not is the listing's last, or a bad file's only one.
+/// The verdict of a text that was written. It is no part of what is proved, and rests on the form of the text, which is: `w ++ after`, with a
+/// line in w for each step tried, or a bad file's only line (`Printed` in crates/listing/specs/Listing.antt). A step's line begins with its
+/// number in decimal digits, and `after` begins with the listing's last line, which is one of three words, for `inspect` too (`inspected`
+/// in crates/judging/specs/Judging.antt). So the first line that does not begin with a digit is that last line or a bad file's, and the
+/// lines of the final state, which come after it, are not reached.
 fn verdict(text: &[u8]) -> Verdict {
     let mut lines = text.split(|byte| *byte == b'\n');
     match lines.find(|line| !line.first().is_some_and(u8::is_ascii_digit)) {

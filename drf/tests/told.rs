@@ -1,0 +1,180 @@
+//! What is told of run files: verdict, number and place, and what the buffer holds afterwards.
+
+use drf::{
+    inspect, judge, refusal, Short, Told, Verdict, MOST_INSPECTION, MOST_LISTING, MOST_READ, STACK,
+};
+use std::fs;
+use std::path::PathBuf;
+use std::thread::Builder;
+
+/// A byte that no text has
+const BLANK: u8 = 0xA5;
+
+/// The paper's example up to the number of its steps
+const BEFORE_STEPS: usize = 33;
+
+fn folder() -> PathBuf {
+    PathBuf::from(concat!(env!("CARGO_MANIFEST_DIR"), "/../examples"))
+}
+
+fn example(name: &str) -> Vec<u8> {
+    let path = folder().join(name);
+    fs::read(&path).unwrap_or_else(|fault| panic!("{}: {fault}", path.display()))
+}
+
+/// Every example with its name
+fn examples() -> Vec<(String, Vec<u8>)> {
+    let names =
+        fs::read_dir(folder()).expect("examples/").map(|entry| entry.expect("a name").path());
+    let files: Vec<_> = names
+        .filter(|path| path.extension().is_some_and(|kind| kind == "drf"))
+        .map(|path| (path.display().to_string(), fs::read(path).expect("an example")))
+        .collect();
+    assert!(files.len() >= 3, "{} examples", files.len());
+    files
+}
+
+/// The clauses of the paper's example with other steps
+fn with_steps(steps: &[&[u8]]) -> Vec<u8> {
+    let mut file = example("first.drf");
+    file.truncate(BEFORE_STEPS);
+    file.extend((steps.len() as u16).to_le_bytes());
+    file.extend(steps.concat());
+    file
+}
+
+/// P(x), and ~P(x) or ~Q(x), with the steps given
+fn two_literals(steps: &[&[u8]]) -> Vec<u8> {
+    let mut file = b"DRF\x01\x00".to_vec();
+    let predicates = [2, 1, 1];
+    let clauses = [2, 1, 0, 1, 1, 1, 1, 1, 0, 2, 0, 1, 1, 0, 2, 1];
+    file.push(1);
+    file.extend(predicates);
+    file.extend(clauses);
+    file.extend((steps.len() as u16).to_le_bytes());
+    file.extend(steps.concat());
+    file
+}
+
+const PROPAGATE: &[u8] = &[1, 1, 1, 1, 1];
+const CONFLICT: &[u8] = &[3, 2, 1, 1];
+const RESOLVE: &[u8] = &[4, 1];
+const SKIP: &[u8] = &[6];
+
+type Ends = (Verdict, u8, u64);
+
+/// What both functions tell alike: the listing and how it ends. What inspect writes begins with the listing.
+fn both(file: &[u8]) -> (String, Ends) {
+    let (mut out, mut more) = (vec![BLANK; MOST_LISTING], vec![BLANK; MOST_INSPECTION]);
+    let listed = judge(file, &mut out).expect("room for a listing");
+    let shown = inspect(file, &mut more).expect("room for an inspection");
+    let ends = |told: Told| (told.verdict, told.number, told.place);
+    assert_eq!(ends(shown), ends(listed));
+    assert!(shown.text.starts_with(listed.text));
+    let text = String::from_utf8(listed.text.to_vec()).expect("a text");
+    let ends = ends(listed);
+    assert!(out[text.len()..].iter().all(|&byte| byte == BLANK), "bytes past the listing stay");
+    (text, ends)
+}
+
+#[test]
+fn known_examples() {
+    let ends = |name: &str| both(&example(name)).1;
+    assert_eq!(ends("first.drf"), (Verdict::Refuted, 0, 0));
+    assert_eq!(ends("exact.drf"), (Verdict::Refuted, 0, 0));
+    assert_eq!(ends("approximate.drf"), (Verdict::Stopped, refusal::NOT_POSSIBLE, 0));
+}
+
+/// The listing of a file that is not bad ends with the verdict's word, and that of `inspect` is told from the longer text.
+#[test]
+fn verdicts_of_all_examples() {
+    for (name, file) in examples() {
+        let (text, (verdict, ..)) = both(&file);
+        assert_ne!(verdict, Verdict::BadFile, "{name}");
+        assert_eq!(text.lines().last(), Some(verdict.to_string().as_str()), "{name}");
+    }
+}
+
+#[test]
+fn open() {
+    assert_eq!(both(&with_steps(&[])), ("open\n".to_string(), (Verdict::Open, 0, 0)));
+    let (text, ends) = both(&with_steps(&[PROPAGATE]));
+    assert_eq!((text.as_str(), ends), ("1 propagate 2 0\nopen\n", (Verdict::Open, 0, 0)));
+}
+
+/// Refusal 12 names the literal.
+#[test]
+fn refused_step() {
+    let (text, ends) = both(&two_literals(&[PROPAGATE, CONFLICT]));
+    assert_eq!(text, "1 propagate 1 0\n2 conflict refused 12\nstopped\n");
+    assert_eq!(ends, (Verdict::Stopped, refusal::NOT_FALSE, 2));
+    let (_, ends) = both(&two_literals(&[CONFLICT]));
+    assert_eq!(ends, (Verdict::Stopped, refusal::NOT_FALSE, 1));
+}
+
+/// A run that is refuted stays so where a later step is refused.
+#[test]
+fn refuted_and_refused() {
+    let steps = [PROPAGATE, CONFLICT, SKIP, RESOLVE, SKIP, SKIP];
+    let (text, ends) = both(&with_steps(&steps));
+    assert!(text.ends_with("6 skip refused 14\nrefuted\n"), "{text}");
+    assert_eq!(ends, (Verdict::Refuted, refusal::NO_ENTRY, 0));
+}
+
+#[test]
+fn bad_files() {
+    let first = example("first.drf");
+    let longer = [&first[..], &[0]].concat();
+    let mut other_version = first.clone();
+    other_version[3] = 2;
+    for (file, number, place) in [
+        (&first[..0], refusal::ENDS_INSIDE, 0),
+        (&first[..46], refusal::ENDS_INSIDE, 46),
+        (&longer[..], refusal::SURPLUS, 47),
+        (&other_version[..], refusal::WRONG_MARK, 3),
+    ] {
+        let text = format!("bad file {number} {place}\n");
+        assert_eq!(both(file), (text, (Verdict::BadFile, number, place)));
+    }
+}
+
+#[test]
+fn bytes_that_are_not_read() {
+    let file = [example("first.drf"), vec![0; MOST_READ]].concat();
+    assert_eq!(both(&file), both(&file[..MOST_READ]));
+}
+
+/// One byte less than the constant is refused and stays as it was; the constant itself is enough.
+#[test]
+fn short_buffers() {
+    let file = example("first.drf");
+    let mut out = vec![BLANK; MOST_INSPECTION];
+    assert_eq!(judge(&file, &mut out[..MOST_LISTING - 1]), Err(Short));
+    assert_eq!(inspect(&file, &mut out[..MOST_INSPECTION - 1]), Err(Short));
+    assert_eq!(judge(&file, &mut []), Err(Short));
+    assert!(out.iter().all(|&byte| byte == BLANK));
+    assert!(judge(&file, &mut out[..MOST_LISTING]).is_ok());
+    assert!(inspect(&file, &mut out).is_ok());
+}
+
+#[test]
+fn bytes_past_the_text_stay() {
+    let file = example("exact.drf");
+    let mut out = vec![BLANK; MOST_INSPECTION + 1];
+    let count = inspect(&file, &mut out).expect("room").text.len();
+    assert!(out[..count].iter().all(|&byte| byte != BLANK));
+    assert!(out[count..].iter().all(|&byte| byte == BLANK));
+}
+
+/// A thread with `STACK` bytes of stack lives.
+#[test]
+fn stack() {
+    let work = || {
+        for (_, file) in examples() {
+            let mut out = vec![0; MOST_INSPECTION];
+            assert!(judge(&file, &mut out).is_ok() && inspect(&file, &mut out).is_ok());
+        }
+    };
+    let thread = Builder::new().stack_size(STACK).spawn(work).expect("a thread");
+    thread.join().expect("a thread that lives");
+}

@@ -1,0 +1,165 @@
+/* usage: stack FILE..
+ * Measures the stack of a thread that judges or inspects each file: a stack is painted, and the lowest byte that a thread changed says how
+ * far it went. Status 1 where less than SPARE of DRF_STACK is left. */
+#define _DEFAULT_SOURCE
+#include <pthread.h>
+#include <stdio.h>
+#include <stdlib.h>
+#include <string.h>
+#include <sys/resource.h>
+#include <sys/wait.h>
+#include <unistd.h>
+
+#include "lent.h"
+
+/* For the frames of signal handlers and of the host's own functions */
+#define SPARE 16384
+#define MEASURED (2 * DRF_STACK)
+#define KIB 1024
+
+/* What a thread does */
+struct work {
+    int inspects;
+    struct file file;
+    uint8_t out[DRF_MOST_INSPECTION];
+};
+
+static void *no_work(void *given)
+{
+    return given;
+}
+
+static void *work_on(void *given)
+{
+    struct work *work = (struct work *)given;
+    uint64_t ends[2];
+    if (work->inspects)
+        drf_inspect(work->file.bytes, work->file.count, work->out, sizeof work->out, ends, 2);
+    else
+        drf_judge(work->file.bytes, work->file.count, work->out, sizeof work->out, ends, 2);
+    return given;
+}
+
+static void run_on(struct stack stack, void *(*work)(void *), void *given)
+{
+    pthread_t thread;
+    int fault = start_on(stack, &thread, work, given);
+    if (fault) {
+        fprintf(stderr, "stack: no thread: %s\n", strerror(fault));
+        exit(2);
+    }
+    pthread_join(thread, NULL);
+}
+
+static struct stack some_stack(size_t size)
+{
+    struct stack stack = new_stack(size);
+    if (stack.size == 0) {
+        fprintf(stderr, "stack: no memory\n");
+        exit(2);
+    }
+    return stack;
+}
+
+/* How many bytes from its top on a thread changed of a stack painted so */
+static size_t painted(struct stack stack, int paint, void *(*work)(void *), void *given)
+{
+    memset(stack.lowest, paint, stack.size);
+    run_on(stack, work, given);
+    size_t same = 0;
+    while (same < stack.size && stack.lowest[same] == paint)
+        same++;
+    return stack.size - same;
+}
+
+/* A byte that is changed to the paint is not seen to be changed, so there are two paints. */
+static size_t deepest(struct stack stack, void *(*work)(void *), void *given)
+{
+    size_t one = painted(stack, 0xA5, work, given);
+    size_t other = painted(stack, 0x5A, work, given);
+    return one < other ? other : one;
+}
+
+struct range {
+    size_t least;
+    size_t most;
+};
+
+static void note(struct range *seen, size_t depth)
+{
+    if (depth < seen->least)
+        seen->least = depth;
+    if (depth > seen->most)
+        seen->most = depth;
+}
+
+/* How a thread ends on a stack so long: 0 for well, or the signal, or -1 where there is no such thread. It is tried in a process of its own,
+ * which may die. */
+static int ended_by(size_t size, struct work *work)
+{
+    fflush(stdout);
+    pid_t child = fork();
+    if (child == 0) {
+        struct rlimit none = {0, 0};
+        setrlimit(RLIMIT_CORE, &none);
+        run_on(some_stack(size), work_on, work);
+        _exit(0);
+    }
+    int status = 0;
+    if (child < 0 || waitpid(child, &status, 0) != child)
+        return -1;
+    if (WIFSIGNALED(status))
+        return WTERMSIG(status);
+    return WEXITSTATUS(status) == 0 ? 0 : -1;
+}
+
+/* The least stack, in pages, on which a thread lives, and how it ends on a page less */
+static void print_least(struct work *work)
+{
+    size_t page = (size_t)sysconf(_SC_PAGESIZE);
+    size_t size = DRF_STACK;
+    int signal = ended_by(size - page, work);
+    while (signal == 0) {
+        size -= page;
+        signal = ended_by(size - page, work);
+    }
+    printf("stack: a thread lives on %zu KiB; on %zu KiB ", size / KIB, (size - page) / KIB);
+    if (signal > 0)
+        printf("it is ended by signal %d\n", signal);
+    else
+        printf("there is none\n");
+}
+
+/* The depths of threads that judge, and of those that inspect; over all files named, or none where one can't be read */
+static int measure(char **names, int count, struct stack stack, struct work *work, struct range *seen)
+{
+    for (int k = 0; k < count; k++) {
+        if (!read_file(names[k], &work->file))
+            return 0;
+        for (work->inspects = 0; work->inspects < 2; work->inspects++)
+            note(&seen[work->inspects], deepest(stack, work_on, work));
+    }
+    return 1;
+}
+
+int main(int count, char **words)
+{
+    static struct work work;
+    struct range seen[2] = {{MEASURED, 0}, {MEASURED, 0}};
+    if (count < 2) {
+        fprintf(stderr, "usage: stack FILE..\n");
+        return 2;
+    }
+    struct stack stack = some_stack(MEASURED);
+    size_t empty = deepest(stack, no_work, NULL);
+    if (!measure(words + 1, count - 1, stack, &work, seen))
+        return 2;
+    printf("stack: %zu bytes of a thread that does nothing\n", empty);
+    printf("stack: %zu to %zu bytes of one that judges, over %d files\n", seen[0].least, seen[0].most, count - 1);
+    printf("stack: %zu to %zu bytes of one that inspects\n", seen[1].least, seen[1].most);
+    work.inspects = 1;
+    print_least(&work);
+    size_t most = seen[0].most < seen[1].most ? seen[1].most : seen[0].most;
+    printf("stack: %d bytes are stated, and %ld of them to spare\n", DRF_STACK, (long)DRF_STACK - (long)most);
+    return most + SPARE <= DRF_STACK ? 0 : 1;
+}

@@ -1,0 +1,161 @@
+/* The proved judge of run files, for C99 and C++. docs/INTEGRATION.md says how it is built and linked, and what is proved of it.
+ *
+ * drf_judge writes the listing of a file, drf_inspect the listing and after it the final state. What holds of both, whatever the file's
+ * bytes are:
+ *
+ * - Read are the file_len bytes from file on. They stay as they are. Of more than DRF_MOST_READ bytes is told what is told of the first.
+ * - The text is written from out on, and its length is answered. It ends with a newline, and no zero byte is put after it: the bytes of the
+ *   buffer past it stay as they were.
+ * - 0 is answered exactly if the buffer is short: out_len below DRF_MOST_LISTING (drf_judge) or DRF_MOST_INSPECTION (drf_inspect), however
+ *   short the text would be. Then nothing is written, to ends neither.
+ * - Else, if ends_len is 2 or more, ends[0] is the number and ends[1] the place that judging ended with, and the other slots stay. If it is
+ *   0 or 1, ends stays.
+ * - Nothing else is written, and nothing is kept: no allocation, no global state, no lock, no call of the system. So both may be called
+ *   from any thread, and from many at once; these may share a file.
+ *
+ * What they count on:
+ *
+ * - Each pointer is that of as many elements as the length beside it says; a length is of elements, so that of ends counts slots of 8 bytes.
+ *   A null pointer goes with length 0 alone (docs/INTEGRATION.md, "Null").
+ * - File, buffer and ends do not overlap, and nothing else writes to them, or reads buffer or ends, before the call returns.
+ * - The thread has DRF_STACK bytes of stack.
+ */
+#ifndef DRF_H
+#define DRF_H
+
+#include <stddef.h>
+#include <stdint.h>
+
+#ifdef __cplusplus
+extern "C" {
+#endif
+
+/* "A valid file is below 65,536 bytes; the program reads no more." */
+#define DRF_MOST_READ 65535
+
+/* A buffer of so many bytes has room for every listing. */
+#define DRF_MOST_LISTING 54008
+
+/* A buffer of so many bytes has room for every listing with its final state. */
+#define DRF_MOST_INSPECTION 136078
+
+/* The stack of a thread that calls, in bytes; file and buffers are not in it. */
+#define DRF_STACK 131072
+
+uint64_t drf_judge(const uint8_t *file, size_t file_len, uint8_t *out, size_t out_len, uint64_t *ends, size_t ends_len);
+uint64_t drf_inspect(const uint8_t *file, size_t file_len, uint8_t *out, size_t out_len, uint64_t *ends, size_t ends_len);
+
+/* The refusal numbers. docs/REFUSALS.md says when each is given. */
+enum drf_refusal {
+    DRF_ACCEPTED = 0,
+    DRF_ENDS_INSIDE = 1,
+    DRF_WRONG_MARK = 2,
+    DRF_ABOVE_LIMIT = 3,
+    DRF_OUT_OF_RANGE = 4,
+    DRF_OCCURS_NOWHERE = 5,
+    DRF_LACKS_BOUND = 6,
+    DRF_UNKNOWN_RULE = 7,
+    DRF_SURPLUS = 8,
+    DRF_WRONG_MOMENT = 9,
+    DRF_NO_SUCH = 10,
+    DRF_ALREADY_DEFINED = 11,
+    DRF_NOT_FALSE = 12,
+    DRF_NOT_POSSIBLE = 13,
+    DRF_NO_ENTRY = 14,
+    DRF_WRONG_LITERAL = 15,
+    DRF_NOT_ABOVE = 16,
+    DRF_KEPT_NOT_POSSIBLE = 17,
+    DRF_NO_ROOM = 18
+};
+
+/* The last line of a listing. */
+enum drf_verdict {
+    DRF_SHORT = 0,    /* no verdict: the buffer is short */
+    DRF_REFUTED = 1,  /* the conflict standing has no literals: the file's clauses have no model */
+    DRF_OPEN = 2,     /* every step was accepted */
+    DRF_STOPPED = 3,  /* a step was refused */
+    DRF_BAD_FILE = 4  /* the file is refused, and none of its steps was tried */
+};
+
+/* What is told of a file. */
+struct drf_told {
+    size_t count; /* of the bytes of text at the buffer's front; 0 where the buffer is short */
+    enum drf_verdict verdict;
+    uint8_t number; /* of the answer to the last step tried, also under DRF_REFUTED; of a bad file its refusal's; 0 where nothing was refused */
+    uint64_t place; /* of refusal 12 the literal, of a bad file the byte; else 0 */
+};
+
+/* The verdict of a text that drf_judge or drf_inspect wrote. A step's line begins with its number, so the first line that does not is the
+ * listing's last, or a bad file's only one; the final state comes after it and is not reached. The four differ in their first letter. */
+static inline enum drf_verdict drf_verdict_of(const uint8_t *text, size_t count)
+{
+    size_t at = 0;
+    while (at < count && text[at] >= '0' && text[at] <= '9') {
+        while (at < count && text[at] != '\n')
+            at++;
+        at++;
+    }
+    switch (at < count ? text[at] : 0) {
+    case 'r':
+        return DRF_REFUTED;
+    case 'o':
+        return DRF_OPEN;
+    case 's':
+        return DRF_STOPPED;
+    case 'b':
+        return DRF_BAD_FILE;
+    default:
+        return DRF_SHORT;
+    }
+}
+
+/* The verdict in the listing's words */
+static inline const char *drf_verdict_name(enum drf_verdict verdict)
+{
+    switch (verdict) {
+    case DRF_REFUTED:
+        return "refuted";
+    case DRF_OPEN:
+        return "open";
+    case DRF_STOPPED:
+        return "stopped";
+    case DRF_BAD_FILE:
+        return "bad file";
+    case DRF_SHORT:
+        break;
+    }
+    return "short";
+}
+
+/* What a call left: the answer, the buffer and the two slots of ends, which begin as 0. */
+static inline struct drf_told drf_told_of(uint64_t count, const uint8_t *out, const uint64_t *ends)
+{
+    struct drf_told told;
+    told.count = (size_t)count;
+    told.verdict = drf_verdict_of(out, told.count);
+    told.number = (uint8_t)ends[0];
+    told.place = ends[1];
+    return told;
+}
+
+/* drf_judge with a typed result */
+static inline struct drf_told drf_judged(const uint8_t *file, size_t file_len, uint8_t *out, size_t out_len)
+{
+    uint64_t ends[2] = {0, 0};
+    uint64_t count = drf_judge(file, file_len, out, out_len, ends, 2);
+    return drf_told_of(count, out, ends);
+}
+
+/* drf_inspect with a typed result */
+static inline struct drf_told drf_inspected(const uint8_t *file, size_t file_len, uint8_t *out, size_t out_len)
+{
+    uint64_t ends[2] = {0, 0};
+    uint64_t count = drf_inspect(file, file_len, out, out_len, ends, 2);
+    return drf_told_of(count, out, ends);
+}
+
+#ifdef __cplusplus
+}
+#endif
+
+#endif
