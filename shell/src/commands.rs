@@ -3,10 +3,7 @@
 use crate::status::Status;
 use crate::streams::{reason, Source};
 use drf::{Short, Told, Verdict, MOST_INSPECTION, MOST_LISTING, MOST_READ};
-use shell::text;
-
-/// 16 MiB: the bytes that a text has at most.
-const MOST_TEXT: usize = 16 << 20;
+use shell::text::{self, MOST_TEXT};
 
 pub struct Command {
     pub word: &'static str,
@@ -58,30 +55,26 @@ fn carried(core: Core, most: usize, source: &Source) -> Outcome {
 fn text(source: &Source) -> Outcome {
     let file = read(source, MOST_READ)?;
     let mut buffer = vec![0; MOST_LISTING];
-    let told = drf::judge(&file, &mut buffer).expect("the buffer has room for every text");
+    let told = drf::judge(&file, &mut buffer).expect("the buffer has room for every listing");
     let Told { verdict, number, place, .. } = told;
-    let bad = || Fault {
-        status: Status::Bad,
-        line: format!("drf: {source}: bad file {number} {place}: refusal {number} at byte {place}"),
-    };
-    let written = (verdict != Verdict::BadFile).then(|| text::text(&file)).flatten();
-    written.map(|text| done(text.into_bytes())).ok_or_else(bad)
+    if verdict == Verdict::BadFile {
+        let words = format!("bad file {number} {place}: refusal {number} at byte {place}");
+        return Err(Fault { status: Status::Bad, line: format!("drf: {source}: {words}") });
+    }
+    let text = text::text(&file).expect("every valid file has a text");
+    Ok(Printed { status: Status::Done, bytes: text.into_bytes() })
 }
 
+/// One byte more than a text has at most shows that it has more.
 fn bytes(source: &Source) -> Outcome {
     let text = read(source, MOST_TEXT + 1)?;
-    let refused = |line| Fault { status: Status::Bad, line };
-    if text.len() > MOST_TEXT {
-        return Err(refused(format!("drf: {source}: a text of more than {MOST_TEXT} bytes")));
+    match text::bytes(&text) {
+        Ok(bytes) => Ok(Printed { status: Status::Done, bytes }),
+        Err(text::Fault { line, column, expected, found }) => {
+            let line = format!("{source}:{line}:{column}: expected {expected}, found {found}");
+            Err(Fault { status: Status::Bad, line })
+        }
     }
-    text::bytes(&text).map(done).map_err(|fault| {
-        let text::Fault { line, column, expected, found } = fault;
-        refused(format!("{source}:{line}:{column}: expected {expected}, found {found}"))
-    })
-}
-
-fn done(bytes: Vec<u8>) -> Printed {
-    Printed { status: Status::Done, bytes }
 }
 
 fn read(source: &Source, most: usize) -> Result<Vec<u8>, Fault> {

@@ -36,7 +36,7 @@ pub fn run(job: &Job, output: &mut Output) -> io::Result<Status> {
 fn outcomes(job: &Job, round: &[Source]) -> Vec<Outcome> {
     let slots: Vec<OnceLock<Outcome>> = round.iter().map(|_| OnceLock::new()).collect();
     let next = AtomicUsize::new(0);
-    side_by_side(job.threads.min(round.len()), || loop {
+    side_by_side(job.threads.min(round.len()), STACK, || loop {
         let index = next.fetch_add(1, Ordering::Relaxed);
         let Some(source) = round.get(index) else { break };
         slots[index].get_or_init(|| (job.command.of)(source));
@@ -44,10 +44,10 @@ fn outcomes(job: &Job, round: &[Source]) -> Vec<Outcome> {
     slots.into_iter().map(|slot| slot.into_inner().expect("every file was taken")).collect()
 }
 
-/// Works on so many threads, or as many of them as can be started; on this one if none can.
-fn side_by_side(threads: usize, work: impl Fn() + Sync) {
+/// Works on so many threads with such a stack, or on as many as can be started; on this one if none can.
+fn side_by_side(threads: usize, stack: usize, work: impl Fn() + Sync) {
     thread::scope(|scope| {
-        let start = || Builder::new().stack_size(STACK).spawn_scoped(scope, &work);
+        let start = || Builder::new().stack_size(stack).spawn_scoped(scope, &work);
         let started = (0..threads).take_while(|_| start().is_ok()).count();
         if started == 0 {
             work();
@@ -83,4 +83,21 @@ fn summary(statuses: &[Status]) -> String {
         count(Status::Bad),
         count(Status::Stream)
     )
+}
+
+#[cfg(test)]
+mod tests {
+    use super::*;
+
+    #[test]
+    fn a_thread_that_cant_be_started_is_done_without() {
+        const TOO_MUCH: usize = 1 << 60;
+        for (threads, stack, works) in [(3, STACK, 3), (3, TOO_MUCH, 1)] {
+            let count = AtomicUsize::new(0);
+            side_by_side(threads, stack, || {
+                count.fetch_add(1, Ordering::Relaxed);
+            });
+            assert_eq!(count.into_inner(), works);
+        }
+    }
 }

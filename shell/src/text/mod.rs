@@ -1,5 +1,7 @@
 //! The text form of a run file: docs/FORMAT.md says what it is.
 
+pub const MOST_TEXT: usize = 16 << 20;
+
 /// Stands in for the text form: the bytes as numbers.
 pub fn text(file: &[u8]) -> Option<String> {
     Some(file.iter().map(|byte| format!("{byte}\n")).collect())
@@ -13,6 +15,9 @@ pub fn bytes(text: &[u8]) -> Result<Vec<u8>, Fault> {
         expected: "a number".to_string(),
         found: found.to_string(),
     };
+    if text.len() > MOST_TEXT {
+        return Err(fault(1, "a longer text"));
+    }
     lines.map(|(word, line)| word.parse().map_err(|_| fault(line, word))).collect()
 }
 
