@@ -1,0 +1,178 @@
+//! What the words of the command line ask for.
+
+use crate::commands::{Command, COMMANDS};
+use crate::files::ROUND;
+use crate::names::shown;
+use crate::streams::Source;
+use std::ffi::{OsStr, OsString};
+use std::num::NonZero;
+use std::os::unix::ffi::OsStrExt;
+use std::thread::available_parallelism;
+
+/// More threads than files held at a time would find nothing to do.
+const MOST_THREADS: usize = ROUND;
+
+pub enum Request {
+    Help,
+    Version,
+    Run(Job),
+}
+
+/// A command with its files
+pub struct Job {
+    pub command: &'static Command,
+    pub sources: Vec<Source>,
+    pub threads: usize,
+}
+
+/// What the options ask for
+struct Asked {
+    /// Whatever else is asked for
+    first: Option<Request>,
+    threads: usize,
+}
+
+/// An option: how it is written, and what it asks for. `help.txt` lists the same.
+struct Entry {
+    names: &'static [&'static str],
+    effect: Effect,
+}
+
+enum Effect {
+    Sets(fn(&mut Asked)),
+    /// Takes the word that follows, or what follows in the same word: `-j 4`, `-j4`.
+    Takes(fn(&mut Asked, Option<&OsStr>) -> Result<(), String>),
+}
+
+const OPTIONS: [Entry; 3] = [
+    Entry { names: &["-j"], effect: Effect::Takes(threads) },
+    Entry {
+        names: &["-h", "--help"],
+        effect: Effect::Sets(|asked| asked.first = Some(Request::Help)),
+    },
+    Entry {
+        names: &["--version"],
+        effect: Effect::Sets(|asked| asked.first = Some(Request::Version)),
+    },
+];
+
+/// What is asked for, or what is wrong.
+pub fn read(mut words: impl Iterator<Item = OsString>) -> Result<Request, String> {
+    let cores = available_parallelism().map_or(1, NonZero::get);
+    let mut asked = Asked { first: None, threads: cores.min(MOST_THREADS) };
+    let mut operands = Vec::new();
+    while let Some(word) = words.next() {
+        if word == "--" {
+            operands.extend(words.by_ref());
+        } else if word != "-" && word.as_bytes().starts_with(b"-") {
+            option(&word, &mut words, &mut asked)?;
+        } else {
+            operands.push(word);
+        }
+        if let Some(request) = asked.first {
+            return Ok(request);
+        }
+    }
+    job(operands, asked.threads).map(Request::Run)
+}
+
+fn option(
+    word: &OsStr,
+    words: &mut impl Iterator<Item = OsString>,
+    asked: &mut Asked,
+) -> Result<(), String> {
+    let named = OPTIONS.iter().find_map(|entry| Some((&entry.effect, after(entry, word)?)));
+    match named {
+        Some((Effect::Takes(take), b"")) => take(asked, words.next().as_deref()),
+        Some((Effect::Takes(take), rest)) => take(asked, Some(OsStr::from_bytes(rest))),
+        Some((Effect::Sets(set), b"")) => {
+            set(asked);
+            Ok(())
+        }
+        _ => Err(format!("unknown option {}", shown(word))),
+    }
+}
+
+/// What stands in the word after a name of the option: nothing, or after a name of one letter what it takes.
+fn after<'a>(entry: &Entry, word: &'a OsStr) -> Option<&'a [u8]> {
+    let rest = |name: &&str| word.as_bytes().strip_prefix(name.as_bytes());
+    let fits = |name: &&str| name.len() == 2 || word == *name;
+    entry.names.iter().filter(|name| fits(name)).find_map(rest)
+}
+
+fn threads(asked: &mut Asked, word: Option<&OsStr>) -> Result<(), String> {
+    let number = word.and_then(OsStr::to_str).and_then(|text| text.parse().ok());
+    let found = word.map_or("nothing".to_string(), shown);
+    asked.threads = number
+        .filter(|number| (1..=MOST_THREADS).contains(number))
+        .ok_or(format!("-j takes a number from 1 to {MOST_THREADS}, found {found}"))?;
+    Ok(())
+}
+
+/// The first operand is the command's word, the others are its files.
+fn job(operands: Vec<OsString>, threads: usize) -> Result<Job, String> {
+    let mut operands = operands.into_iter();
+    let words = COMMANDS.map(|command| command.word).join(", ");
+    let word = operands.next().ok_or(format!("no command: it is one of {words}"))?;
+    let command = COMMANDS
+        .iter()
+        .find(|command| word == command.word)
+        .ok_or(format!("unknown command {}: it is none of {words}", shown(&word)))?;
+    let sources: Vec<Source> = operands.map(Source::of).collect();
+    let inputs = sources.iter().filter(|source| **source == Source::Input).count();
+    match sources.len() {
+        0 => Err(format!("{}: no FILE", command.word)),
+        2.. if !command.several => Err(format!("{}: more than one FILE", command.word)),
+        _ if inputs > 1 => Err("standard input (-) stands more than once".to_string()),
+        _ => Ok(Job { command, sources, threads }),
+    }
+}
+
+#[cfg(test)]
+mod tests {
+    use super::*;
+    use crate::HELP;
+
+    /// The entries of a part of the help, word by word. A line that goes on with an entry is indented further.
+    fn part(title: &str) -> Vec<Vec<&'static str>> {
+        let lines = HELP.lines().skip_while(|line| !line.starts_with(title)).skip(1);
+        let lines = lines.filter(|line| !line.starts_with("   "));
+        lines
+            .map_while(|line| Some(line.strip_prefix("  ")?.split_whitespace().collect()))
+            .collect()
+    }
+
+    #[test]
+    fn the_help_lists_the_commands() {
+        let listed: Vec<_> = part("Commands").iter().map(|line| (line[0], line[1])).collect();
+        let files = |several| if several { "FILE.." } else { "FILE" };
+        assert_eq!(listed, COMMANDS.map(|command| (command.word, files(command.several))));
+    }
+
+    #[test]
+    fn the_help_lists_the_options() {
+        let known =
+            OPTIONS.iter().map(|entry| (entry.names, matches!(entry.effect, Effect::Takes(_))));
+        let listed = part("Options");
+        let last = listed.len() - 1;
+        assert_eq!(listed[last][0], "--");
+        assert_eq!(last, OPTIONS.len());
+        for (line, (names, takes)) in listed.iter().zip(known) {
+            assert!(line.starts_with(names), "{line:?} {names:?}");
+            // `run` knows by a capital letter that a word follows.
+            assert_eq!(line[names.len()].chars().all(char::is_uppercase), takes, "{line:?}");
+        }
+    }
+
+    #[test]
+    fn the_help_lists_the_statuses() {
+        use crate::status::Status::*;
+        let listed: Vec<_> = part("Status").iter().map(|line| line[0].parse().ok()).collect();
+        assert_eq!(listed, [Done, Usage, Stream, Open, Stopped, Bad].map(|s| Some(s as u8)));
+    }
+
+    #[test]
+    fn the_help_states_the_limit_of_threads() {
+        assert!(HELP.contains(&format!("1 to {MOST_THREADS};")));
+    }
+}

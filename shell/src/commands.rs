@@ -1,0 +1,85 @@
+//! The four commands: what comes of one file.
+
+use crate::status::Status;
+use crate::streams::{reason, Source};
+use drf::{Short, Told, Verdict, MOST_INSPECTION, MOST_LISTING, MOST_READ};
+use shell::text::{self, MOST_TEXT};
+
+pub struct Command {
+    pub word: &'static str,
+    /// It takes several files, else one.
+    pub several: bool,
+    pub of: fn(&Source) -> Outcome,
+}
+
+pub const COMMANDS: [Command; 4] = [
+    Command { word: "judge", several: true, of: judge },
+    Command { word: "inspect", several: true, of: inspect },
+    Command { word: "text", several: false, of: text },
+    Command { word: "bytes", several: false, of: bytes },
+];
+
+/// What comes of a file: something on standard output, or a line on standard error in its stead.
+pub type Outcome = Result<Printed, Fault>;
+
+pub struct Printed {
+    pub status: Status,
+    pub bytes: Vec<u8>,
+}
+
+pub struct Fault {
+    pub status: Status,
+    pub line: String,
+}
+
+/// A function of the proved core
+type Core = for<'a> fn(&[u8], &'a mut [u8]) -> Result<Told<'a>, Short>;
+
+fn judge(source: &Source) -> Outcome {
+    carried(drf::judge, MOST_LISTING, source)
+}
+
+fn inspect(source: &Source) -> Outcome {
+    carried(drf::inspect, MOST_INSPECTION, source)
+}
+
+/// What the core writes, byte for byte.
+fn carried(core: Core, most: usize, source: &Source) -> Outcome {
+    let file = read(source, MOST_READ)?;
+    let mut buffer = vec![0; most];
+    let told = core(&file, &mut buffer).expect("the buffer has room for every text");
+    Ok(Printed { status: told.verdict.into(), bytes: told.text.to_vec() })
+}
+
+/// A bad file has no text: the core judges first.
+fn text(source: &Source) -> Outcome {
+    let file = read(source, MOST_READ)?;
+    let mut buffer = vec![0; MOST_LISTING];
+    let told = drf::judge(&file, &mut buffer).expect("the buffer has room for every listing");
+    let Told { verdict, number, place, .. } = told;
+    if verdict == Verdict::BadFile {
+        let words = format!("bad file {number} {place}: refusal {number} at byte {place}");
+        return Err(Fault { status: Status::Bad, line: format!("drf: {source}: {words}") });
+    }
+    let text = text::text(&file).expect("every valid file has a text");
+    Ok(Printed { status: Status::Done, bytes: text.into_bytes() })
+}
+
+/// One byte more than a text has at most shows that it has more.
+fn bytes(source: &Source) -> Outcome {
+    let text = read(source, MOST_TEXT + 1)?;
+    match text::bytes(&text) {
+        Ok(bytes) => Ok(Printed { status: Status::Done, bytes }),
+        Err(text::Fault { line, column, expected, found }) => {
+            let line = format!("{source}:{line}:{column}: expected {expected}, found {found}");
+            Err(Fault { status: Status::Bad, line })
+        }
+    }
+}
+
+fn read(source: &Source, most: usize) -> Result<Vec<u8>, Fault> {
+    source.read(most).map_err(|fault| Fault {
+        status: Status::Stream,
+        line: format!("drf: {source}: {}", reason(&fault)),
+    })
+}
