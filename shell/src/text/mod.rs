@@ -1,30 +1,36 @@
 //! The text form of a run file: docs/FORMAT.md says what it is.
+//!
+//! [`text`] writes the text of a file, [`bytes`] the file of a text. Neither judges: what has the form can be said, and the proved core
+//! decides on it.
 
+mod fault;
+mod fields;
+mod names;
+mod read;
+mod tokens;
+mod write;
+
+pub use fault::Fault;
+
+/// A longer text is refused.
 pub const MOST_TEXT: usize = 16 << 20;
 
-/// Stands in for the text form: the bytes as numbers.
+/// The text of a run file, or none where no text says the file. Every valid file has one, and `bytes` of it is the file.
 pub fn text(file: &[u8]) -> Option<String> {
-    Some(file.iter().map(|byte| format!("{byte}\n")).collect())
+    write::text(file)
 }
 
+/// The run file that a text says.
 pub fn bytes(text: &[u8]) -> Result<Vec<u8>, Fault> {
-    let lines = std::str::from_utf8(text).unwrap_or_default().lines().zip(1..);
-    let fault = |line, found: &str| Fault {
-        line,
-        column: 1,
-        expected: "a number".to_string(),
-        found: found.to_string(),
-    };
     if text.len() > MOST_TEXT {
-        return Err(fault(1, "a longer text"));
+        return Err(fault::of_all("a text of at most 16 MiB", "a longer one"));
     }
-    lines.map(|(word, line)| word.parse().map_err(|_| fault(line, word))).collect()
-}
-
-#[derive(Clone, Debug, PartialEq, Eq)]
-pub struct Fault {
-    pub line: usize,
-    pub column: usize,
-    pub expected: String,
-    pub found: String,
+    if fields::begins_file(text) {
+        return Err(fault::of_all("the text of a run file", "a run file, which is bytes already"));
+    }
+    let text = text.strip_prefix(b"\xEF\xBB\xBF").unwrap_or(text);
+    match std::str::from_utf8(text) {
+        Ok(text) => read::file(text),
+        Err(error) => Err(fault::not_utf8(text, error.valid_up_to())),
+    }
 }
