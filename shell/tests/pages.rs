@@ -351,6 +351,62 @@ fn limits_are_those_of_the_sources() {
     }
 }
 
+/// What a file without constants, predicates and clauses begins with, as text
+const EMPTY: &str = "drf 1\nconstants 0\npredicates\n";
+
+/// A rule's arguments as a table names them, each as a text has it and as so many bytes
+fn argument(name: &str) -> (&str, usize) {
+    match name {
+        "none" => ("", 0),
+        "sign" => (" +", 1),
+        "instance" => (" ()", 1),
+        _ => (" 1", 1),
+    }
+}
+
+#[test]
+fn rules_are_as_the_page_says() {
+    let rows = section(FORMAT, "The run file").rows();
+    let rules: Vec<_> =
+        rows.iter().filter(|row| row.len() == 3 && number(&row[0]).is_some()).collect();
+    assert_eq!(rules.len(), 8);
+    for rule in rules {
+        let arguments: Vec<_> = rule[2].split(", ").map(argument).collect();
+        let text: String = arguments.iter().map(|argument| argument.0).collect();
+        let file = said(&format!("{EMPTY}{}{text}\n", rule[1]));
+        let step = &file[said(EMPTY).len()..];
+        assert_eq!(Some(step[0].into()), number(&rule[0]), "{rule:?}");
+        assert_eq!(step.len(), 1 + arguments.iter().map(|argument| argument.1).sum::<usize>());
+        assert!(listing(&file).starts_with(&format!("1 {} ", rule[1])), "{rule:?}");
+    }
+}
+
+/// The examples in a cell
+fn in_cell(cell: &str) -> Vec<&str> {
+    cell.split('`').step_by(2).collect()
+}
+
+#[test]
+fn examples_of_lines_are_read() {
+    let rows = section(FORMAT, "The text form").rows();
+    let of = |name: &str| {
+        let row = rows.iter().find(|row| row[0].starts_with(name));
+        in_cell(&row.unwrap_or_else(|| panic!("no row {name:?}"))[2])
+    };
+    for (constants, predicates) in of("constants").iter().zip(of("predicates")) {
+        let mut lines = of("drf");
+        lines.extend([constants, predicates]);
+        lines.extend(of("clause").into_iter().chain(of("NUMBER")));
+        said(&lines.join("\n"));
+    }
+    let clause = format!("clause 2 [{}] {}\n", of("atom").join(" "), of("literal").join(" "));
+    let step = |instance: &&str| format!("conflict 1 {instance}\n");
+    let decide = |sign: &&str| format!("decide 1 1 {sign} ()\n");
+    let steps: String =
+        of("instance").iter().map(step).chain(of("Decide").iter().map(decide)).collect();
+    said(&format!("drf 1\nconstants soda lime\npredicates Taken/2 1 0\n{clause}{steps}"));
+}
+
 #[test]
 fn text_form_is_as_the_page_says() {
     let section = section(FORMAT, "The text form");
