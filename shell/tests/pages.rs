@@ -200,6 +200,47 @@ fn conflicts_beside_the_source_are_those_of_the_run() {
     assert_eq!(shown, changing.collect::<Vec<_>>());
 }
 
+#[test]
+fn example_6_is_refuted_with_one_constant() {
+    let clauses = cut(&read_text("examples/inconsistent.txt"), 0);
+    let search = "propagate 1 1 (a,a)\npropagate 2 2 (a,a)\nconflict 3 (a,a)\n";
+    let back = "skip\nskip\nskip\nresolve 2\nfactorize 1 2\nskip\nresolve 1\n";
+    assert!(listing(&said(&format!("{clauses}{search}{back}"))).ends_with("\nrefuted\n"));
+}
+
+/// A decision of either sign on a literal of clause 3, or none
+fn decisions(literal: usize, constant: char) -> [String; 3] {
+    let decide = |sign| format!("decide 3 {literal} {sign} ({constant})\n");
+    [String::new(), decide('+'), decide('~')]
+}
+
+#[test]
+fn example_7_has_no_step_left_on_its_clauses_below_0() {
+    let fixed = cut(&read_text("examples/exhaustive.txt"), 3);
+    for constant in ['a', 'b', 'c'] {
+        for q in decisions(1, constant) {
+            for r in decisions(2, constant) {
+                let decided = format!("{fixed}{q}{r}");
+                assert!(listing(&said(&decided)).ends_with("\nopen\n"), "{decided}");
+                no_step_on_clauses_3_to_6(&decided, constant);
+            }
+        }
+    }
+}
+
+fn no_step_on_clauses_3_to_6(decided: &str, constant: char) {
+    for clause in 3..=6 {
+        for step in [
+            format!("conflict {clause}"),
+            format!("propagate {clause} 1"),
+            format!("propagate {clause} 2"),
+        ] {
+            let text = format!("{decided}{step} ({constant})\n");
+            assert!(listing(&said(&text)).ends_with("\nstopped\n"), "{text}");
+        }
+    }
+}
+
 // ---- refusals
 
 /// The paper's words for each number, as the definitions quote them
