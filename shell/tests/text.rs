@@ -1,81 +1,402 @@
-//! The text form of a run file: text and bytes say the same, and a text that says no file is told where and why.
+//! The text form of a run file: text and bytes say the same, whatever the text is written like, up to the ends of every number.
 
+use checker::file::RunFile;
 use checker::generate::generate;
-use drf::{inspect, MOST_INSPECTION};
-use shell::text::{bytes, text};
+use checker::step::Step;
+use drf::{inspect, judge, MOST_INSPECTION, MOST_LISTING};
+use shell::text::{bytes, text, MOST_TEXT};
 use std::ops::Range;
 use std::thread;
 
 const FILES: usize = 20_000;
 const WORKERS: u64 = 2;
 
-/// The text of a file that has one
-fn text_of(file: &[u8]) -> String {
-    text(file).expect("a valid file has a text")
-}
-
 /// The bytes of a text that says a file
 fn bytes_of(text: &str) -> Vec<u8> {
-    bytes(text.as_bytes()).unwrap_or_else(|fault| panic!("{fault}\n{text}"))
+    bytes(text.as_bytes()).unwrap_or_else(|fault| panic!("{fault}"))
 }
 
-/// The lines of a text that begin with a word, or do not
-fn lines_of(text: &str, word: &str, begin: bool) -> String {
-    text.split_inclusive('\n').filter(|line| line.starts_with(word) == begin).collect()
+/// The fault of a text that says none
+fn fault_of(text: &str) -> String {
+    bytes(text.as_bytes()).map_or_else(|fault| fault.to_string(), |_| "none".to_string())
 }
 
-/// The lines of a text that say no step: those of the steps begin with their number.
+/// The lines of a text that begin as told
+fn lines_that(text: &str, begin: impl Fn(&str) -> bool) -> String {
+    text.split_inclusive('\n').filter(|line| begin(line)).collect()
+}
+
+fn clause_lines(text: &str) -> String {
+    lines_that(text, |line| line.starts_with("clause "))
+}
+
+/// The text without its steps, which begin with their numbers
 fn without_steps(text: &str) -> String {
-    let is_step = |line: &str| line.starts_with(|first: char| first.is_ascii_digit());
-    text.split_inclusive('\n').filter(|line| !is_step(line)).collect()
+    lines_that(text, |line| !line.starts_with(|first: char| first.is_ascii_digit()))
 }
 
-/// The clause lines that `inspect` prints of the opened state
-fn inspected_clauses(text: &str, buffer: &mut [u8]) -> String {
-    let file = bytes_of(&without_steps(text));
-    let told = inspect(&file, buffer).expect("the buffer is long enough");
-    lines_of(std::str::from_utf8(told.text).expect("ASCII"), "clause ", true)
+/// What `inspect` prints of a file
+fn inspected(file: &[u8], buffer: &mut [u8]) -> String {
+    let told = inspect(file, buffer).expect("the buffer is long enough");
+    String::from_utf8_lossy(told.text).into_owned()
 }
 
-fn round_trip(file: &[u8], buffer: &mut [u8]) -> Result<(), &'static str> {
-    let text = text_of(file);
-    if bytes_of(&text) != file {
-        return Err("the text's bytes are others");
+/// A step behind its number
+fn step_text(step: &Step) -> String {
+    let name = step.rule_name();
+    match step {
+        Step::Propagate { clause, literal, instance } => {
+            format!("{name} {clause} {literal} {}", tuple(instance))
+        }
+        Step::Decide { clause, literal, positive, instance } => {
+            let sign = if *positive { '+' } else { '~' };
+            format!("{name} {clause} {literal} {sign} {}", tuple(instance))
+        }
+        Step::Conflict { clause, instance } => format!("{name} {clause} {}", tuple(instance)),
+        Step::Resolve { literal } | Step::Backtrack { literal } => format!("{name} {literal}"),
+        Step::Factorize { first, second } => format!("{name} {first} {second}"),
+        Step::Skip => name.to_string(),
+        Step::Grow { count } => format!("{name} {count}"),
     }
-    if text_of(&bytes_of(&text)) != text {
-        return Err("the text's bytes have another text");
-    }
-    if lines_of(&text, "clause ", true) != inspected_clauses(&text, buffer) {
-        return Err("the clause lines are others than those of `inspect`");
-    }
-    Ok(())
 }
 
-/// How many of the seeds' files are valid; each goes to text and back.
-fn round_trips(seeds: Range<u64>) -> usize {
+fn tuple(instance: &[u8]) -> String {
+    let constants: Vec<String> = instance.iter().map(u8::to_string).collect();
+    format!("({})", constants.join(","))
+}
+
+/// The text of a file as the checker reads it, with clause lines as they are printed by `inspect`
+fn text_by_others(run: &RunFile, clauses: &str) -> String {
+    let arities: String = run.arities.iter().map(|arity| format!(" {arity}")).collect();
+    let steps = run.steps.iter().zip(1..);
+    let steps: String = steps.map(|(step, k)| format!("{k} {}\n", step_text(step))).collect();
+    format!("drf 1\nconstants {}\npredicates{arities}\n{clauses}{steps}", run.constants)
+}
+
+/// What is wrong with a valid file's text
+fn wrong(file: &[u8], run: &RunFile, buffer: &mut [u8]) -> Option<&'static str> {
+    let Some(written) = text(file) else { return Some("a valid file has no text") };
+    let back = bytes_of(&written);
+    let opened = inspected(&bytes_of(&without_steps(&written)), buffer);
+    if back != file {
+        Some("the text's bytes are others")
+    } else if text(&back).as_ref() != Some(&written) {
+        Some("the text's bytes have another text")
+    } else if written != text_by_others(run, &clause_lines(&opened)) {
+        Some("the text is another than that by the checker and `inspect`")
+    } else {
+        None
+    }
+}
+
+/// A file that is not valid has no text, or one that says it.
+fn wrong_if_refused(file: &[u8]) -> Option<&'static str> {
+    let differs = text(file).is_some_and(|text| bytes_of(&text) != file);
+    differs.then_some("the text's bytes are others")
+}
+
+/// How many of the seeds' files are valid
+fn tried(seeds: Range<u64>) -> usize {
     let mut buffer = vec![0; MOST_INSPECTION];
-    let valid = |file: &Vec<u8>| checker::file::read(file).is_ok();
-    let files = seeds.map(|seed| (seed, generate(seed))).filter(|(_, file)| valid(file));
     let mut count = 0;
-    for (seed, file) in files {
-        count += 1;
-        assert_eq!(round_trip(&file, &mut buffer), Ok(()), "seed {seed}");
+    for seed in seeds {
+        let file = generate(seed);
+        let read = checker::file::read(&file);
+        count += usize::from(read.is_ok());
+        let wrong = match read {
+            Ok(run) => wrong(&file, &run, &mut buffer),
+            Err(_) => wrong_if_refused(&file),
+        };
+        assert_eq!(wrong, None, "seed {seed}");
     }
     count
 }
 
-/// Seeds are taken by the thousand for each worker until there are enough valid files.
+/// Seeds are taken in parts until there are enough valid files.
 #[test]
 fn text_and_back() {
-    const PART: u64 = 1_000;
+    const PART: u64 = 250;
     let (mut files, mut seeds) = (0, 0);
     while files < FILES {
         let part = |k| seeds + k * PART + 1..seeds + (k + 1) * PART + 1;
         let workers: Vec<_> =
-            (0..WORKERS).map(part).map(|part| thread::spawn(move || round_trips(part))).collect();
-        files +=
-            workers.into_iter().map(|worker| worker.join().expect("all the same")).sum::<usize>();
+            (0..WORKERS).map(part).map(|part| thread::spawn(move || tried(part))).collect();
+        files += workers.into_iter().map(|w| w.join().expect("nothing wrong")).sum::<usize>();
         seeds += WORKERS * PART;
     }
     println!("{files} valid files of {seeds} seeds");
+}
+
+/// The paper's example
+#[test]
+fn first() {
+    let file = b"DRF\x01\0\x01\x01\x01\x02\x01\x01\x01\x01\0\x0A\0\0\0\x01\x01\x01\x01\x01\x01\0\x01\xFD\xFF\xFF\xFF\0\x01\x01\
+        \x04\0\x01\x01\x01\x01\x01\x03\x02\x01\x01\x06\x04\x01";
+    let written = "drf 1\nconstants 1\npredicates 1\nclause 1 1 [1-0<=10] P1(1)\nclause 2 1 [0-1<=-3] ~P1(1)\n\
+        1 propagate 1 1 (1)\n2 conflict 2 (1)\n3 skip\n4 resolve 1\n";
+    assert_eq!(text(file).as_deref(), Some(written));
+    assert_eq!(bytes_of(written), file);
+}
+
+/// Every kind of line, as `text` writes it
+const EVERY: &str = "\
+drf 1
+constants 2
+predicates 2 1 0
+clause 1 2 [1-0<=4120 0-1<=-4120] P1(1,2) ~P2(1)
+clause 2 0 [] P3() ~P1(1,2)
+clause 3 0 []
+1 propagate 1 1 (2,1)
+2 decide 1 2 + (1,2)
+3 decide 1 2 ~ (2,1)
+4 conflict 2 ()
+5 resolve 1
+6 factorize 1 2
+7 skip
+8 backtrack 1
+9 grow 2
+";
+
+/// The same with names, without numbers, and with blanks and comments wherever they can stand
+const OTHERWISE: &str = "
+# A lookup that went wrong.
+
+\tdrf 01# the version
+constants soda lime     # in the order of their codes: größer heißt später
+predicates Taken/2 Open / 1 0
+  clause 2 [ 1 - 0 <= 4120\t0 - 1 <= - 4120 ] Taken ( 1 , 2 ) ~ Open(1) #
+clause 0[]P3()~Taken(1,2)
+
+clause 3 000 []
+propagate 1 1 (lime,soda)
+decide 1 2+(soda,2)
+   3 decide 1 2 ~ (lime, 1)
+conflict 2()
+
+# clause 4 0 []
+resolve 1
+factorize 1 2
+7\tskip
+backtrack 1
+grow 2";
+
+#[test]
+fn written_otherwise() {
+    let file = bytes_of(EVERY);
+    assert_eq!(text(&file).as_deref(), Some(EVERY));
+    let otherwise = OTHERWISE;
+    let cases = [
+        otherwise.to_string(),
+        otherwise.replace('\n', "\r\n"),
+        otherwise.replace('\n', "\n\n"),
+        otherwise.replace(' ', "\t \t"),
+        format!("\u{FEFF}{otherwise}"),
+        format!("\u{FEFF}{}", EVERY.replace('\n', " # \u{FEFF}\r\n \t\r\n")),
+        // Predicates and constants have their names apart, and no word is kept from them.
+        otherwise.replace("soda", "clause").replace("lime", "Taken").replace("Open", "drf"),
+        otherwise.replace("soda", "P1").replace("lime", "P_2"),
+        otherwise.replace("Taken", "P").replace("Open", "p"),
+        otherwise.replace("Taken", "open").replace("Open(", "P002("),
+    ];
+    for case in cases {
+        assert_eq!(bytes_of(&case), file, "{case}");
+    }
+}
+
+/// What stands before the clauses in the texts below; the number of clauses is byte 10
+const HEAD: &str = "drf 1\nconstants soda lime\npredicates Taken/2 1 0\n";
+
+/// A number of one byte: the text, from below HEAD, with @ for the number; its byte in the file; what is expected of it
+const BYTES: [(&str, usize, &str); 19] = [
+    ("clause @ []", 11, "a number of variables from 0 to 255"),
+    ("clause 1 @ []", 11, "a number of variables from 0 to 255"),
+    ("clause 0 [@-0<=0]", 14, "a place from 0 to 255"),
+    ("clause 0 [0-@<=0]", 15, "a place from 0 to 255"),
+    ("clause 0 [] Taken(@,1)", 16, "a variable (a number from 0 to 255)"),
+    ("clause 0 [] Taken(1,@)", 17, "a variable (a number from 0 to 255)"),
+    ("propagate @ 1 ()", 14, "a clause's number from 0 to 255"),
+    ("propagate 1 @ ()", 15, "a literal's number from 0 to 255"),
+    ("propagate 1 1 (@)", 17, "a constant (a number from 0 to 255, or a name given above)"),
+    ("decide @ 1 + ()", 14, "a clause's number from 0 to 255"),
+    ("decide 1 @ + ()", 15, "a literal's number from 0 to 255"),
+    ("decide 1 1 ~ (1,@)", 19, "a constant (a number from 0 to 255, or a name given above)"),
+    ("conflict @ ()", 14, "a clause's number from 0 to 255"),
+    ("conflict 1 (1,1,@)", 18, "a constant (a number from 0 to 255, or a name given above)"),
+    ("resolve @", 14, "a literal's number from 0 to 255"),
+    ("factorize @ 1", 14, "a literal's number from 0 to 255"),
+    ("factorize 1 @", 15, "a literal's number from 0 to 255"),
+    ("backtrack @", 14, "a literal's number from 0 to 255"),
+    ("grow @", 14, "a number of constants from 0 to 255"),
+];
+
+#[test]
+fn ends_of_bytes() {
+    for (line, at, expected) in BYTES {
+        for end in [0, 255] {
+            let file = bytes_of(&format!("{HEAD}{}", line.replace('@', &end.to_string())));
+            assert_eq!(file[at], end, "{line}");
+        }
+        let column = line.find('@').map_or(0, |index| index + 1);
+        assert_eq!(
+            fault_of(&format!("{HEAD}{}", line.replace('@', "256"))),
+            format!("line 4, column {column}: expected {expected}, found 256")
+        );
+    }
+}
+
+/// Numbers of the lines above the clauses, of predicates, and c
+#[test]
+fn ends_of_other_numbers() {
+    let head = |version, constants, arity| {
+        format!("drf {version}\nconstants {constants}\npredicates {arity}\n")
+    };
+    assert_eq!(bytes_of(&head(0, 0, 0)), b"DRF\0\0\0\x01\0\0\0\0");
+    assert_eq!(bytes_of(&head(65535, 255, 255)), b"DRF\xFF\xFF\xFF\x01\xFF\0\0\0");
+    let fault = "line 1, column 5: expected a version from 0 to 65535, found 65536";
+    assert_eq!(fault_of(&head(65536, 0, 0)), fault);
+    let fault = "line 2, column 11: expected a number of constants from 0 to 255, found 256";
+    assert_eq!(fault_of(&head(1, 256, 0)), fault);
+    let fault = "line 3, column 12: expected an arity from 0 to 255, found 256";
+    assert_eq!(fault_of(&head(1, 0, 256)), fault);
+
+    let predicate = |name| format!("{HEAD}clause 0 [] {name}(9)");
+    assert_eq!(bytes_of(&predicate("P0"))[14..17], [1, 0, 9]);
+    assert_eq!(bytes_of(&predicate("P255"))[14..17], [1, 255, 9]);
+    let fault = "line 4, column 13: expected a predicate from P0 to P255, found `P256`";
+    assert_eq!(fault_of(&predicate("P256")), fault);
+
+    let c = |c: i64| format!("{HEAD}clause 0 [1-0<={c}]");
+    assert_eq!(bytes_of(&c(i32::MAX.into()))[16..20], i32::MAX.to_le_bytes());
+    assert_eq!(bytes_of(&c(i32::MIN.into()))[16..20], i32::MIN.to_le_bytes());
+    let fault = "line 4, column 16: expected a number from -2147483648 to 2147483647, found";
+    assert_eq!(fault_of(&c(i64::from(i32::MAX) + 1)), format!("{fault} 2147483648"));
+    assert_eq!(fault_of(&c(i64::from(i32::MIN) - 1)), format!("{fault} -2147483649"));
+}
+
+/// So many things in a row
+fn row(count: usize, thing: impl Fn(usize) -> String) -> String {
+    (1..=count).map(thing).collect()
+}
+
+/// A text with so many things of a kind
+type Many = fn(usize) -> String;
+
+/// What is counted, the greatest count, a byte of the file that is 255 then, and the place of one more
+const COUNTS: [(Many, &str, usize, &str); 9] = [
+    (many_constants, "255 constants", 5, "line 2, column 1178"),
+    (many_arities, "255 predicates", 6, "line 3, column 522"),
+    (many_predicates, "255 predicates", 6, "line 3, column 1689"),
+    (|n| HEAD.to_string() + &"clause 0 []\n".repeat(n), "255 clauses", 10, "line 259, column 1"),
+    (|n| HEAD.to_string() + &many_atoms(n), "255 atoms", 12, "line 4, column 1796"),
+    (|n| HEAD.to_string() + &many_literals(n), "255 literals", 13, "line 4, column 1033"),
+    (|n| HEAD.to_string() + &many_arguments(n), "255 arguments", 270, "line 4, column 1036"),
+    (many_in_instance, "255 constants of the instance", 15, "line 4, column 523"),
+    (|n| HEAD.to_string() + &"skip\n".repeat(n), "65535 steps", 12, "line 65539, column 1"),
+];
+
+fn many_constants(n: usize) -> String {
+    format!("drf 1\nconstants{}\npredicates", row(n, |k| format!(" c{k}")))
+}
+
+fn many_arities(n: usize) -> String {
+    format!("drf 1\nconstants 0\npredicates{}", " 1".repeat(n))
+}
+
+fn many_predicates(n: usize) -> String {
+    format!("drf 1\nconstants 0\npredicates{}", row(n, |k| format!(" p{k}/1")))
+}
+
+fn many_atoms(n: usize) -> String {
+    format!("clause 0 [{}]", "1-0<=0 ".repeat(n))
+}
+
+fn many_literals(n: usize) -> String {
+    format!("clause 0 [] {}", "P3()".repeat(n))
+}
+
+fn many_arguments(n: usize) -> String {
+    format!("clause 0 [] P9({}255)", "255,".repeat(n - 1))
+}
+
+fn many_in_instance(n: usize) -> String {
+    format!("{HEAD}conflict 1 ({}1)", "1,".repeat(n - 1))
+}
+
+#[test]
+fn ends_of_counts() {
+    for (many, most, at, place) in COUNTS {
+        let count = if most.ends_with("steps") { 65535 } else { 255 };
+        let file = bytes_of(&many(count));
+        assert_eq!(file[at], 255, "{most}");
+        let again = text(&file).map(|text| bytes_of(&text));
+        assert!(again.is_none_or(|again| again == file), "{most}");
+        let fault = format!("{place}: expected at most {most}, found one more");
+        assert_eq!(fault_of(&many(count + 1)), fault);
+    }
+}
+
+#[test]
+fn end_of_the_text() {
+    let padded = |length: usize| format!("{EVERY}#{}", " ".repeat(length - EVERY.len() - 1));
+    assert_eq!(bytes_of(&padded(MOST_TEXT)), bytes_of(EVERY));
+    assert_eq!(
+        fault_of(&padded(MOST_TEXT + 1)),
+        "line 1, column 1: expected a text of at most 16 MiB, found a longer one"
+    );
+}
+
+/// What a text can say and the judge refuses, with number and place
+#[test]
+fn refused_by_the_judge() {
+    let below = |lines: &str| format!("drf 1\nconstants 2\npredicates 2 1\n{lines}");
+    let instance = "1,".repeat(12);
+    let cases = [
+        (format!("drf 2{}", &EVERY[5..]), 2, 3),
+        ("drf 1\nconstants 17\npredicates".to_string(), 3, 5),
+        ("drf 1\nconstants 2\npredicates 1 1 1 1 1 1 1 1 1".to_string(), 3, 6),
+        ("drf 1\nconstants 2\npredicates 4".to_string(), 3, 7),
+        (below(&"clause 0 []\n".repeat(49)), 3, 9),
+        (below("clause 13 []"), 3, 10),
+        (below("clause 1 1 [1-0<=2000000]"), 4, 15),
+        (below("clause 1 1 [0-0<=2]"), 4, 14),
+        (below("clause 1 1 [2-0<=2]"), 4, 13),
+        (below("clause 1 2 [] P9(1,1)"), 4, 14),
+        (below("clause 1 2 [] P0()"), 4, 14),
+        (below("clause 1 1 [] P1(1,2)"), 4, 16),
+        (below("clause 1 1 [] P1(1,0)"), 4, 16),
+        (below("clause 1 2 [1-0<=2]"), 5, 10),
+        (below("clause 1 2 [1-2<=2]"), 6, 10),
+        (below(&"skip\n".repeat(2001)), 3, 10),
+        (below(&format!("conflict 1 ({instance}1)")), 3, 14),
+        (below("conflict 1 ()"), 10, 0),
+        (below("skip"), 9, 0),
+    ];
+    let mut buffer = vec![0; MOST_LISTING];
+    for (text, number, place) in cases {
+        let told = judge(&bytes_of(&text), &mut buffer).expect("the buffer is long enough");
+        assert_eq!((told.number, told.place), (number, place), "{text}");
+    }
+}
+
+/// Files that no text says
+#[test]
+fn no_text() {
+    let file = bytes_of(EVERY);
+    for end in 0..file.len() {
+        assert_eq!(text(&file[..end]), None, "the first {end} bytes");
+    }
+    let with = |at: usize, byte: u8| {
+        let mut file = file.clone();
+        file[at] = byte;
+        text(&file)
+    };
+    let literal = file.windows(4).position(|bytes| bytes == [1, 1, 1, 2]).expect("P1(1,2)");
+    let decide = file.windows(4).position(|bytes| bytes == [2, 1, 2, 0]).expect("decide 1 2 ~");
+    assert_eq!(text(&[file.as_slice(), &[0]].concat()), None, "a byte behind the last step");
+    assert_eq!(with(2, b'f'), None, "the mark");
+    assert_eq!(with(3, 2), None, "the version");
+    assert_eq!(with(literal, 2), None, "a literal's sign");
+    assert_eq!(with(literal + 1, 9), None, "a predicate that is not declared");
+    assert_eq!(with(decide, 9), None, "a rule that there is not");
+    assert_eq!(with(decide + 3, 2), None, "a decision's sign");
 }

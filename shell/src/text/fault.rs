@@ -1,8 +1,10 @@
 //! What a text has that can't stand there, in words for the one who mends it.
 
+use super::tokens::is_number;
 use std::fmt;
 
-/// The first place where a text can't be read on. Lines and columns count from 1, columns in characters; a byte order mark is not counted.
+/// The first place where a text can't be read on. Lines and columns count from 1, columns in characters; a byte order mark at the start
+/// is not counted. What ends too early is told of just behind its last token, and a text that does at its very end.
 #[derive(Clone, Debug, PartialEq, Eq)]
 pub struct Fault {
     pub line: usize,
@@ -20,61 +22,58 @@ impl fmt::Display for Fault {
 
 impl std::error::Error for Fault {}
 
-impl Fault {
-    pub(super) fn at(
-        line: usize,
-        column: usize,
-        expected: impl Into<String>,
-        found: impl Into<String>,
-    ) -> Fault {
-        Fault { line, column, expected: expected.into(), found: found.into() }
-    }
+/// The fault of a text as a whole
+pub(super) fn of_all(expected: &str, found: &str) -> Fault {
+    Fault { line: 1, column: 1, expected: expected.to_string(), found: found.to_string() }
 }
 
 /// The fault of a text whose first bytes, as many as told, are UTF-8 and the next one is not.
 pub(super) fn not_utf8(text: &[u8], good: usize) -> Fault {
     let before = String::from_utf8_lossy(&text[..good]);
     let last = before.rsplit('\n').next().unwrap_or_default();
-    let line = before.matches('\n').count() + 1;
-    let found = format!("the byte {:02X}", text[good]);
-    Fault::at(line, last.chars().count() + 1, "text in UTF-8", found)
+    Fault {
+        line: before.matches('\n').count() + 1,
+        column: last.chars().count() + 1,
+        expected: "text in UTF-8".to_string(),
+        found: format!("the byte 0x{:02X}", text[good]),
+    }
 }
 
 /// A longer token is cut where it is shown.
 const MOST_SHOWN: usize = 40;
 
-/// A token as a fault shows it; the empty one is a line's end.
+/// A token or a number as a fault shows it; the empty token is a line's end.
 pub(super) fn shown(token: &str) -> String {
-    if token.is_empty() {
-        return "the end of the line".to_string();
-    }
-    if token == "`" {
-        return "a backquote".to_string();
+    match token {
+        "" => return "the end of the line".to_string(),
+        "`" => return "a backquote".to_string(),
+        _ => {}
     }
     let mut written: String = token.chars().take(MOST_SHOWN).map(legible).collect();
     if token.chars().nth(MOST_SHOWN).is_some() {
         written.push_str("..");
     }
-    if token.bytes().all(|byte| byte.is_ascii_digit()) {
+    if is_number(token.strip_prefix('-').unwrap_or(token)) {
         return written;
     }
     format!("`{written}`{}", unusual(token))
 }
 
-/// The code of the first character outside ASCII: it may look like another one.
+/// The code of the first character that is seen and is not ASCII: it may look like another one.
 fn unusual(token: &str) -> String {
-    let unusual = token.chars().find(|character| !character.is_ascii());
-    unusual.map_or(String::new(), |character| {
-        let code = format!("U+{:04X}", character as u32);
-        if token.chars().count() == 1 {
-            format!(" ({code})")
-        } else {
-            format!(" (`{}` is {code})", legible(character))
-        }
-    })
+    let mut characters = token.chars();
+    let Some(unusual) = characters.find(|c| !c.is_ascii() && legible(*c) == c.to_string()) else {
+        return String::new();
+    };
+    let code = format!("U+{:04X}", unusual as u32);
+    if token.len() == unusual.len_utf8() {
+        format!(" ({code})")
+    } else {
+        format!(" (`{unusual}` is {code})")
+    }
 }
 
-/// A character, or its escape where it would not be seen.
+/// A character, or its escape where it would not be seen
 fn legible(character: char) -> String {
     match character {
         '\'' | '"' | '\\' => character.to_string(),

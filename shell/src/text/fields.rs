@@ -2,6 +2,9 @@
 
 const MARK: &[u8; 3] = b"DRF";
 
+/// The number of steps has 16 bits.
+pub const MOST_STEPS: usize = 65_535;
+
 /// What a step has behind its rule
 #[derive(Clone, Copy)]
 pub enum Field {
@@ -65,7 +68,7 @@ pub fn opened(file: &[u8]) -> Option<(&'static Version, &[u8])> {
     Some((Version::of(u16::from_le_bytes(*version))?, fields))
 }
 
-/// Whether bytes that are to be a text are those of a run file.
+/// Whether bytes that are to be a text are those of a run file: the byte behind the mark is a version's and no character of a text.
 pub fn begins_file(text: &[u8]) -> bool {
-    opened(text).is_some()
+    text.strip_prefix(MARK).and_then(<[u8]>::first).is_some_and(|&version| version < b'\t')
 }

@@ -15,7 +15,7 @@ pub use fault::Fault;
 /// A longer text is refused.
 pub const MOST_TEXT: usize = 16 << 20;
 
-/// The text of a run file. Every valid file has one; none is given of a file whose fields it can't tell apart.
+/// The text of a run file, or none where no text says the file. Every valid file has one, and `bytes` of it is the file.
 pub fn text(file: &[u8]) -> Option<String> {
     write::text(file)
 }
@@ -23,15 +23,10 @@ pub fn text(file: &[u8]) -> Option<String> {
 /// The run file that a text says.
 pub fn bytes(text: &[u8]) -> Result<Vec<u8>, Fault> {
     if text.len() > MOST_TEXT {
-        return Err(Fault::at(1, 1, "a text of at most 16 MiB", "a longer one"));
+        return Err(fault::of_all("a text of at most 16 MiB", "a longer one"));
     }
     if fields::begins_file(text) {
-        return Err(Fault::at(
-            1,
-            1,
-            "the text of a run file",
-            "a run file, which is bytes already",
-        ));
+        return Err(fault::of_all("the text of a run file", "a run file, which is bytes already"));
     }
     let text = text.strip_prefix(b"\xEF\xBB\xBF").unwrap_or(text);
     match std::str::from_utf8(text) {

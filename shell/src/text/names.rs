@@ -1,37 +1,35 @@
 //! Constants and predicates: how many there are, and which names stand for them.
 
 use super::fault::Fault;
-use super::tokens::{is_name, is_number, Line};
+use super::tokens::{in_word, is_name, is_number, Line, MOST_BYTE};
 use std::collections::HashMap;
 
-/// What a name is made of
-const NAME: &str = "a name of letters a to z, digits and `_`";
-
-/// Names in turn for the numbers from 1
+/// The numbers that names stand for
 #[derive(Default)]
-struct Names<'a> {
-    numbers: HashMap<&'a str, u8>,
-}
+struct Names<'a>(HashMap<&'a str, u8>);
 
 impl<'a> Names<'a> {
     /// Gives the next token to a number.
     fn give(&mut self, line: &mut Line<'a>, number: u8) -> Result<(), Fault> {
-        let name = line.token();
-        if self.numbers.contains_key(name) {
-            return Err(line.fault("a name that is not given before"));
+        if self.0.contains_key(line.token()) {
+            return Err(line.fault("a name that is not yet given"));
         }
-        self.numbers.insert(name, number);
+        self.0.insert(line.token(), number);
         line.pass();
         Ok(())
     }
 }
 
-/// The number of one more, where a byte has room for it.
-pub fn one_more(line: &Line, count: u8, what: &str) -> Result<u8, Fault> {
-    let room = || line.fault_of(format!("at most 255 {what}"), "one more");
-    count.checked_add(1).ok_or_else(room)
+/// A name as it is expected; of a word that is none, what it would have to be.
+fn name_for(token: &str) -> &'static str {
+    if token.starts_with(in_word) && !is_number(token) {
+        "a name (a letter a to z or A to Z, then letters, digits and `_`)"
+    } else {
+        "a name"
+    }
 }
 
+#[derive(Default)]
 pub struct Constants<'a> {
     pub count: u8,
     names: Names<'a>,
@@ -40,37 +38,42 @@ pub struct Constants<'a> {
 impl<'a> Constants<'a> {
     /// How many, or a name for each
     pub fn read(mut line: Line<'a>) -> Result<Constants<'a>, Fault> {
-        line.one("constants")?;
-        let mut constants = Constants { count: 0, names: Names::default() };
-        if is_name(line.token()) {
+        let mut constants = Constants::default();
+        let token = line.token();
+        if is_name(token) {
             constants.name_all(line)?;
-        } else {
-            constants.count =
-                line.number(|| format!("a number of constants from 0 to 255 or {NAME}"))?;
+        } else if is_number(token) {
+            constants.count = line.byte("a number of constants")?;
             line.end("the end of the line")?;
+        } else {
+            let name = name_for(token);
+            let expected = format_args!("a number of constants from 0 to {MOST_BYTE}, or {name}");
+            return Err(line.fault(expected));
         }
         Ok(constants)
     }
 
     fn name_all(&mut self, mut line: Line<'a>) -> Result<(), Fault> {
         while is_name(line.token()) {
-            self.count = one_more(&line, self.count, "constants")?;
+            line.room(self.count.into(), MOST_BYTE, "constants")?;
+            self.count += 1;
             self.names.give(&mut line, self.count)?;
         }
-        line.end(&format!("{NAME}, or the end of the line"))
+        line.end(format_args!("{} or the end of the line", name_for(line.token())))
     }
 
     /// A constant, by its number or its name
     pub fn one(&self, line: &mut Line) -> Result<u8, Fault> {
-        if let Some(&number) = self.names.numbers.get(line.token()) {
+        if let Some(&number) = self.names.0.get(line.token()) {
             line.pass();
             return Ok(number);
         }
-        let names = if self.names.numbers.is_empty() { "" } else { ", or its name" };
-        line.number(|| format!("a constant's number from 0 to 255{names}"))
+        let or = if self.names.0.is_empty() { "" } else { ", or a name given above" };
+        line.number(format_args!("a constant (a number from 0 to {MOST_BYTE}{or})"))
     }
 }
 
+#[derive(Default)]
 pub struct Predicates<'a> {
     /// In turn, from predicate 1 on
     pub arities: Vec<u8>,
@@ -80,25 +83,26 @@ pub struct Predicates<'a> {
 impl<'a> Predicates<'a> {
     /// An arity for each, with its name before it where it has one
     pub fn read(mut line: Line<'a>) -> Result<Predicates<'a>, Fault> {
-        line.one("predicates")?;
-        let mut predicates = Predicates { arities: Vec::new(), names: Names::default() };
+        let mut predicates = Predicates::default();
         while is_name(line.token()) || is_number(line.token()) {
             predicates.declare(&mut line)?;
         }
-        line.end("an arity from 0 to 255, a name with its arity, or the end of the line")?;
+        let name = name_for(line.token());
+        let arity = format_args!("an arity from 0 to {MOST_BYTE}");
+        line.end(format_args!("{arity}, {name} with its arity, or the end of the line"))?;
         Ok(predicates)
     }
 
     fn declare(&mut self, line: &mut Line<'a>) -> Result<(), Fault> {
-        let number = one_more(line, self.arities.len() as u8, "predicates")?;
+        line.room(self.arities.len(), MOST_BYTE, "predicates")?;
         let name = line.token();
         if by_number(name).is_some() {
             let why = "as P and digits name a predicate by its number";
-            return Err(line.fault(format!("a name other than {name}, {why}")));
+            return Err(line.fault(format_args!("a name other than {name}, {why}")));
         }
         if is_name(name) {
-            self.names.give(line, number)?;
-            line.one("/")?;
+            self.names.give(line, self.arities.len() as u8 + 1)?;
+            line.one("/", "`/` and an arity")?;
         }
         self.arities.push(line.byte("an arity")?);
         Ok(())
@@ -107,10 +111,11 @@ impl<'a> Predicates<'a> {
     /// A predicate, by its name or as P and its number
     pub fn one(&self, line: &mut Line) -> Result<u8, Fault> {
         let word = line.token();
-        let number = match (self.names.numbers.get(word), by_number(word)) {
-            (Some(&number), _) => number,
+        let number = match (self.names.0.get(word), by_number(word)) {
+            (Some(number), _) => *number,
             (None, Some(digits)) => {
-                digits.parse().map_err(|_| line.fault("a predicate from P0 to P255"))?
+                let expected = format_args!("a predicate from P0 to P{MOST_BYTE}");
+                digits.parse().map_err(|_| line.fault(expected))?
             }
             (None, None) => return Err(line.fault("a predicate's name, or P and its number")),
         };
@@ -118,8 +123,10 @@ impl<'a> Predicates<'a> {
         Ok(number)
     }
 
-    pub fn arity(&self, predicate: u8) -> Option<u8> {
-        self.arities.get(usize::from(predicate).checked_sub(1)?).copied()
+    /// The arity of a predicate that is declared
+    pub fn arity(&self, predicate: u8) -> Option<usize> {
+        let arity = self.arities.get(usize::from(predicate).checked_sub(1)?)?;
+        Some((*arity).into())
     }
 }
 

@@ -1,18 +1,18 @@
-//! A text is read line by line, and its file written.
+//! A text is read line by line, and its run file written.
 
-use super::fault::Fault;
-use super::fields::{opening, Field, Rule, Version};
-use super::names::{one_more, Constants, Predicates};
-use super::tokens::{is_name, is_number, Line, Lines};
+use super::fault::{shown, Fault};
+use super::fields::{opening, Field, Version, MOST_STEPS};
+use super::names::{Constants, Predicates};
+use super::tokens::{is_name, is_number, Line, Lines, MOST_BYTE};
 
 /// The run file that a text says
 pub fn file(text: &str) -> Result<Vec<u8>, Fault> {
     let mut lines = Lines::of(text);
-    let number = version(lines.one("`drf` and the version")?)?;
+    let number = version(lines.one("drf", "the version")?)?;
     let reader = Reader {
         version: Version::of_text(number),
-        constants: Constants::read(lines.one("`constants` and how many")?)?,
-        predicates: Predicates::read(lines.one("`predicates` and their arities")?)?,
+        constants: Constants::read(lines.one("constants", "how many")?)?,
+        predicates: Predicates::read(lines.one("predicates", "their arities")?)?,
     };
     let mut file = opening(number);
     file.push(reader.constants.count);
@@ -23,10 +23,16 @@ pub fn file(text: &str) -> Result<Vec<u8>, Fault> {
 }
 
 fn version(mut line: Line) -> Result<u16, Fault> {
-    line.one("drf")?;
-    let version = line.number(|| "a version from 0 to 65535".to_string())?;
+    let version = line.number(format_args!("a version from 0 to {}", u16::MAX))?;
     line.end("the end of the line")?;
     Ok(version)
+}
+
+/// Things that the file counts: how many there are, and their bytes
+#[derive(Default)]
+struct List {
+    count: usize,
+    bytes: Vec<u8>,
 }
 
 /// What the lines below the first three are read with
@@ -39,93 +45,97 @@ struct Reader<'a> {
 impl Reader<'_> {
     fn clauses_and_steps(&self, lines: &mut Lines, file: &mut Vec<u8>) -> Result<(), Fault> {
         let mut line = lines.next();
-        let mut clauses = (0, Vec::new());
+        let mut clauses = List::default();
         while let Some(clause) = line.filter(|line| line.token() == "clause") {
-            clauses.0 = one_more(&clause, clauses.0, "clauses")?;
-            self.clause(clause, clauses.0, &mut clauses.1)?;
+            self.clause(clause, &mut clauses)?;
             line = lines.next();
         }
-        let mut steps = (0_u16, Vec::new());
+        let mut steps = List::default();
         while let Some(step) = line {
-            if step.token() == "clause" {
-                return Err(step.fault("every clause before the first step"));
-            }
-            let room = || step.fault_of("at most 65535 steps", "one more");
-            steps.0 = steps.0.checked_add(1).ok_or_else(room)?;
-            self.step(step, steps.0, &mut steps.1)?;
+            self.step(step, &mut steps)?;
             line = lines.next();
         }
-        file.push(clauses.0);
-        file.extend(clauses.1);
-        file.extend(steps.0.to_le_bytes());
-        file.extend(steps.1);
+        file.push(clauses.count as u8);
+        file.extend(clauses.bytes);
+        file.extend((steps.count as u16).to_le_bytes());
+        file.extend(steps.bytes);
         Ok(())
     }
 
     /// `clause 1 2 [1-0<=4120] P1(1,2)`
-    fn clause(&self, mut line: Line, number: u8, file: &mut Vec<u8>) -> Result<(), Fault> {
-        line.one("clause")?;
-        let variables = variables(&mut line, number)?;
-        let mut atoms = (0, Vec::new());
+    fn clause(&self, mut line: Line, clauses: &mut List) -> Result<(), Fault> {
+        line.room(clauses.count, MOST_BYTE, "clauses")?;
+        clauses.count += 1;
+        line.pass();
+        let variables = variables(&mut line, clauses.count)?;
+        let mut atoms = List::default();
         while !line.passes("]") {
-            atoms.0 = self.atom(&mut line, atoms.0, &mut atoms.1)?;
+            self.atom(&mut line, &mut atoms)?;
         }
-        let mut literals = (0, Vec::new());
+        let mut literals = List::default();
         while line.token() == "~" || is_name(line.token()) {
-            literals.0 = self.literal(&mut line, literals.0, &mut literals.1)?;
+            self.literal(&mut line, &mut literals)?;
         }
-        line.end("a literal or the end of the line")?;
-        file.extend([variables, atoms.0, literals.0]);
-        file.extend(atoms.1);
-        file.extend(literals.1);
+        line.end("`~`, a predicate or the end of the line")?;
+        clauses.bytes.extend([variables, atoms.count as u8, literals.count as u8]);
+        clauses.bytes.extend(atoms.bytes);
+        clauses.bytes.extend(literals.bytes);
         Ok(())
     }
 
-    /// `1-0<=4120`, behind so many atoms
-    fn atom(&self, line: &mut Line, before: u8, file: &mut Vec<u8>) -> Result<u8, Fault> {
+    /// `1-0<=4120`
+    fn atom(&self, line: &mut Line, atoms: &mut List) -> Result<(), Fault> {
         if !is_number(line.token()) {
-            return Err(line.fault("`]` or an atom"));
+            return Err(line.fault("`]` or an atom p-q<=c"));
         }
-        let count = one_more(line, before, "atoms")?;
-        file.push(line.byte("a place")?);
-        line.one("-")?;
-        file.push(line.byte("a place")?);
-        line.one("<=")?;
-        file.extend(c(line)?.to_le_bytes());
-        Ok(count)
+        line.room(atoms.count, MOST_BYTE, "atoms")?;
+        atoms.count += 1;
+        atoms.bytes.push(line.byte("a place")?);
+        line.one("-", "`-` and a place")?;
+        atoms.bytes.push(line.byte("a place")?);
+        line.one("<=", "`<=`")?;
+        atoms.bytes.extend(c(line)?.to_le_bytes());
+        Ok(())
     }
 
-    /// `~P1(1,2)`, behind so many literals
-    fn literal(&self, line: &mut Line, before: u8, file: &mut Vec<u8>) -> Result<u8, Fault> {
-        let count = one_more(line, before, "literals")?;
-        file.push((!line.passes("~")).into());
+    /// `~P1(1,2)`
+    fn literal(&self, line: &mut Line, literals: &mut List) -> Result<(), Fault> {
+        line.room(literals.count, MOST_BYTE, "literals")?;
+        literals.count += 1;
+        literals.bytes.push((!line.passes("~")).into());
         let name = line.token();
         let predicate = self.predicates.one(line)?;
-        file.push(predicate);
+        literals.bytes.push(predicate);
         let place = *line;
-        let arguments = tuple(line, "arguments", |line| line.byte("a variable's number"))?;
-        let arity = self.predicates.arity(predicate).map(usize::from);
-        if arity.is_some_and(|arity| arity != arguments.len()) {
-            let arity = arity.unwrap_or_default();
+        let arguments = tuple(line, "arguments", variable)?;
+        let count = arguments.len();
+        // What is not declared has no arity that it could miss.
+        let arity = self.predicates.arity(predicate).unwrap_or(count);
+        if arity != count {
             let plural = if arity == 1 { "" } else { "s" };
             let expected = format!("{arity} argument{plural} for {name}");
-            return Err(place.fault_of(expected, arguments.len().to_string()));
+            return Err(place.fault_of(expected, count.to_string()));
         }
-        file.extend(arguments);
-        Ok(count)
+        literals.bytes.extend(arguments);
+        Ok(())
     }
 
     /// `1 propagate 1 1 (2,1)`
-    fn step(&self, mut line: Line, number: u16, file: &mut Vec<u8>) -> Result<(), Fault> {
+    fn step(&self, mut line: Line, steps: &mut List) -> Result<(), Fault> {
+        if line.token() == "clause" {
+            return Err(line.fault("every clause before the first step"));
+        }
+        line.room(steps.count, MOST_STEPS, "steps")?;
+        steps.count += 1;
         let numbered = is_number(line.token());
         if numbered {
-            line.given("step number", number.into())?;
+            line.given("step number", steps.count)?;
         }
-        let or = if number == 1 && !numbered { "`clause` or " } else { "" };
+        let or = if steps.count == 1 && !numbered { "`clause` or " } else { "" };
         let (rule, fields) = self.rule(&mut line, or)?;
-        file.push(rule);
+        steps.bytes.push(rule);
         for field in fields {
-            self.field(&mut line, *field, file)?;
+            self.field(&mut line, *field, &mut steps.bytes)?;
         }
         line.end("the end of the line")
     }
@@ -133,13 +143,12 @@ impl Reader<'_> {
     /// The number and the fields of the rule that the next token names
     fn rule(&self, line: &mut Line, or: &str) -> Result<(u8, &'static [Field]), Fault> {
         let rules = self.version.rules;
-        let named = |rule: &Rule| rule.name == line.token();
-        let Some(place) = rules.iter().position(named) else {
+        let Some(index) = rules.iter().position(|rule| rule.name == line.token()) else {
             let names: Vec<&str> = rules.iter().map(|rule| rule.name).collect();
             return Err(line.fault(format!("{or}a rule ({})", names.join(", "))));
         };
         line.pass();
-        Ok((place as u8 + 1, rules[place].fields))
+        Ok((index as u8 + 1, rules[index].fields))
     }
 
     fn field(&self, line: &mut Line, field: Field, file: &mut Vec<u8>) -> Result<(), Fault> {
@@ -148,12 +157,13 @@ impl Reader<'_> {
             Field::Sign => {
                 let positive = line.passes("+");
                 if !positive {
-                    line.one_of("~", || "`+` or `~`".to_string())?;
+                    line.one("~", "the sign, `+` or `~`")?;
                 }
                 file.push(positive.into());
             }
             Field::Instance => {
-                let constants = tuple(line, "constants", |line| self.constants.one(line))?;
+                let constants =
+                    tuple(line, "constants of the instance", |line| self.constants.one(line))?;
                 file.push(constants.len() as u8);
                 file.extend(constants);
             }
@@ -162,33 +172,37 @@ impl Reader<'_> {
     }
 }
 
-/// The number of a clause's variables and the bracket behind it; the clause's own number may stand before.
-fn variables(line: &mut Line, number: u8) -> Result<u8, Fault> {
+/// How many variables a clause has, and the bracket behind that; the clause's own number may stand before it.
+fn variables(line: &mut Line, clause: usize) -> Result<u8, Fault> {
     let mut behind = *line;
     behind.pass();
     let numbered = is_number(line.token()) && is_number(behind.token());
     if numbered {
-        line.given("clause number", number.into())?;
+        line.given("clause number", clause)?;
     }
     let variables = line.byte("a number of variables")?;
-    let or = if numbered { "" } else { " or a number of variables from 0 to 255" };
-    line.one_of("[", || format!("`[`{or}"))?;
+    // A single number may have been meant as the clause's.
+    let or = if numbered { "" } else { " or a number of variables" };
+    line.one("[", format_args!("`[`{or}"))?;
     Ok(variables)
 }
 
+fn variable(line: &mut Line) -> Result<u8, Fault> {
+    line.number(format_args!("a variable (a number from 0 to {MOST_BYTE})"))
+}
+
+/// The number at an atom's end
 fn c(line: &mut Line) -> Result<i32, Fault> {
-    let start = *line;
-    if !line.passes("-") {
-        return line.number(|| format!("a number from {} to {}", i32::MIN, i32::MAX));
-    }
+    let place = *line;
+    let range = || format!("a number from {} to {}", i32::MIN, i32::MAX);
+    let negative = line.passes("-");
     let digits = line.token();
     if !is_number(digits) {
-        return Err(line.fault("a number"));
+        return Err(line.fault(if negative { "digits".to_string() } else { range() }));
     }
     line.pass();
-    let number = format!("-{digits}");
-    let range = || format!("a number from {} to {}", i32::MIN, i32::MAX);
-    number.parse().map_err(|_| start.fault_of(range(), number.clone()))
+    let number = format!("{}{digits}", if negative { "-" } else { "" });
+    number.parse().map_err(|_| place.fault_of(range(), shown(&number)))
 }
 
 /// Numbers in brackets, with a comma between every two
@@ -197,17 +211,18 @@ fn tuple(
     what: &str,
     number: impl Fn(&mut Line) -> Result<u8, Fault>,
 ) -> Result<Vec<u8>, Fault> {
-    line.one("(")?;
+    line.one("(", format_args!("`(` and the {what}"))?;
     let mut numbers = Vec::new();
     if line.passes(")") {
         return Ok(numbers);
     }
-    loop {
-        one_more(line, numbers.len() as u8, what)?;
+    let or = if is_number(line.token()) { "" } else { "`)` or " };
+    let or_none = |fault: Fault| Fault { expected: or.to_string() + &fault.expected, ..fault };
+    numbers.push(number(line).map_err(or_none)?);
+    while !line.passes(")") {
+        line.one(",", "`,` or `)`")?;
+        line.room(numbers.len(), MOST_BYTE, what)?;
         numbers.push(number(line)?);
-        if line.passes(")") {
-            return Ok(numbers);
-        }
-        line.one_of(",", || "`,` or `)`".to_string())?;
     }
+    Ok(numbers)
 }

@@ -1,28 +1,38 @@
 //! Lines and their tokens, each with its place.
 
 use super::fault::{shown, Fault};
+use std::fmt::Display;
 use std::str::FromStr;
+
+/// The largest number of one byte
+pub const MOST_BYTE: usize = 255;
 
 /// The lines of a text that have a token
 pub struct Lines<'a> {
     /// What is behind the lines seen; none behind the last one
     rest: Option<&'a str>,
-    /// The number of the last line seen, and the line
-    number: usize,
+    /// The last line seen, and its number
     line: &'a str,
+    number: usize,
 }
 
 impl<'a> Lines<'a> {
     pub fn of(text: &'a str) -> Lines<'a> {
-        Lines { rest: Some(text), number: 0, line: "" }
+        Lines { rest: Some(text), line: "", number: 0 }
     }
 
-    /// The next line, which must be there.
-    pub fn one(&mut self, expected: &str) -> Result<Line<'a>, Fault> {
-        self.next().ok_or_else(|| {
-            let column = self.line.chars().count() + 1;
-            Fault::at(self.number, column, expected, "the end of the text")
-        })
+    /// The next line, which must begin with this word, from behind it.
+    pub fn one(&mut self, word: &str, and: &str) -> Result<Line<'a>, Fault> {
+        let expected = format!("`{word}` and {and}");
+        match self.next() {
+            Some(mut line) => line.one(word, expected).map(|()| line),
+            None => Err(Fault {
+                line: self.number,
+                column: self.line.chars().count() + 1,
+                expected,
+                found: "the end of the text".to_string(),
+            }),
+        }
     }
 }
 
@@ -65,12 +75,15 @@ impl<'a> Line<'a> {
         Line { column: self.column + self.rest.len() - rest.len(), rest, ..self }
     }
 
-    /// The next token; at the line's end it is empty.
+    /// The next token: a word, `<=` or one character; at the line's end it is empty.
     pub fn token(&self) -> &'a str {
         let word = self.rest.len() - self.rest.trim_start_matches(in_word).len();
-        let sign = if self.rest.starts_with("<=") { 2 } else { 0 };
-        let one = self.rest.chars().next().map_or(0, char::len_utf8);
-        &self.rest[..one.max(word).max(sign)]
+        let length = match self.rest.chars().next() {
+            _ if word > 0 => word,
+            _ if self.rest.starts_with("<=") => 2,
+            first => first.map_or(0, char::len_utf8),
+        };
+        &self.rest[..length]
     }
 
     /// Passes over the next token.
@@ -89,44 +102,49 @@ impl<'a> Line<'a> {
         there
     }
 
-    /// Passes over this token, which must be next.
-    pub fn one(&mut self, token: &str) -> Result<(), Fault> {
-        self.one_of(token, || format!("`{token}`"))
-    }
-
-    /// Passes over this token, which must be next, where others could stand too.
-    pub fn one_of(&mut self, token: &str, expected: impl Fn() -> String) -> Result<(), Fault> {
+    /// Passes over the next token, which must be this one.
+    pub fn one(&mut self, token: &str, expected: impl Display) -> Result<(), Fault> {
         if self.passes(token) {
             Ok(())
         } else {
-            Err(self.fault(expected()))
+            Err(self.fault(expected))
         }
     }
 
-    /// A number that its kind has room for.
-    pub fn number<N: FromStr>(&mut self, expected: impl Fn() -> String) -> Result<N, Fault> {
+    /// A number that its type has room for
+    pub fn number<N: FromStr>(&mut self, expected: impl Display) -> Result<N, Fault> {
         let token = self.token();
         let number = if is_number(token) { token.parse().ok() } else { None };
-        let number = number.ok_or_else(|| self.fault(expected()))?;
+        let number = number.ok_or_else(|| self.fault(expected))?;
         self.pass();
         Ok(number)
     }
 
     /// A number of one byte
     pub fn byte(&mut self, what: &str) -> Result<u8, Fault> {
-        self.number(|| format!("{what} from 0 to 255"))
+        self.number(format_args!("{what} from 0 to {MOST_BYTE}"))
     }
 
-    /// A number that may be left out, and is this one where it is not.
+    /// A number that could be left out: where it stands it must be this one.
     pub fn given(&mut self, what: &str, number: usize) -> Result<(), Fault> {
         if self.token().parse() != Ok(number) {
-            return Err(self.fault(format!("{what} {number}")));
+            return Err(self.fault(format_args!("{what} {number}")));
         }
         self.pass();
         Ok(())
     }
 
-    pub fn end(&self, expected: &str) -> Result<(), Fault> {
+    /// Room for one more where there are so many
+    pub fn room(&self, count: usize, most: usize, what: &str) -> Result<(), Fault> {
+        if count < most {
+            Ok(())
+        } else {
+            Err(self.fault_of(format_args!("at most {most} {what}"), "one more"))
+        }
+    }
+
+    /// The line's end
+    pub fn end(&self, expected: impl Display) -> Result<(), Fault> {
         if self.rest.is_empty() {
             Ok(())
         } else {
@@ -134,18 +152,23 @@ impl<'a> Line<'a> {
         }
     }
 
-    /// The fault that something else was expected than the next token.
-    pub fn fault(&self, expected: impl Into<String>) -> Fault {
+    /// The fault that the next token is not what was expected
+    pub fn fault(&self, expected: impl Display) -> Fault {
         self.fault_of(expected, shown(self.token()))
     }
 
-    pub fn fault_of(&self, expected: impl Into<String>, found: impl Into<String>) -> Fault {
-        Fault::at(self.number, self.column, expected, found)
+    pub fn fault_of(&self, expected: impl Display, found: impl Display) -> Fault {
+        Fault {
+            line: self.number,
+            column: self.column,
+            expected: expected.to_string(),
+            found: found.to_string(),
+        }
     }
 }
 
-/// Numbers and names are words, and so is what is nearly one: it is shown whole.
-fn in_word(character: char) -> bool {
+/// Numbers and names are words, and so is what is nearly one: a fault shows it whole.
+pub fn in_word(character: char) -> bool {
     character.is_alphanumeric() || character == '_'
 }
 
