@@ -47,9 +47,13 @@ fn seeds() -> io::Result<Vec<(String, Vec<u8>)>> {
     let (mut seeds, mut seen) = (Vec::new(), Seen::default());
     for entry in fs::read_dir(EXAMPLES)? {
         let entry = entry?;
-        let (name, file) = (entry.file_name(), fs::read(entry.path())?);
-        seen.note(&run(&file));
-        seeds.push((name.to_string_lossy().into_owned(), file));
+        let name = entry.file_name().to_string_lossy().into_owned();
+        // Beside each run file stands its text.
+        if name.ends_with(".drf") {
+            let file = fs::read(entry.path())?;
+            seen.note(&run(&file));
+            seeds.push((name, file));
+        }
     }
     for seed in 1..=GENERATED {
         let unseen = seen.unseen().len();

@@ -1,0 +1,502 @@
+//! docs/FORMAT.md, docs/REFUSALS.md, docs/EXAMPLES.md and examples/, held against the tool: what a page says of a run is what is printed of it.
+
+use std::collections::BTreeMap;
+use std::fs;
+use std::path::{Path, PathBuf};
+
+// ---- the tool
+
+/// The listing of a file, and the place of its last answer
+fn judged(file: &[u8]) -> (String, u64) {
+    let mut out = vec![0; drf::MOST_LISTING];
+    let told = drf::judge(file, &mut out).expect("the buffer has room for every listing");
+    (String::from_utf8_lossy(told.text).into_owned(), told.place)
+}
+
+fn listing(file: &[u8]) -> String {
+    judged(file).0
+}
+
+fn inspection(file: &[u8]) -> String {
+    let mut out = vec![0; drf::MOST_INSPECTION];
+    let told = drf::inspect(file, &mut out).expect("the buffer has room for every final state");
+    String::from_utf8_lossy(told.text).into_owned()
+}
+
+/// The run file that a text says
+fn said(text: &str) -> Vec<u8> {
+    shell::text::bytes(text.as_bytes()).unwrap_or_else(|fault| panic!("{fault}, in\n{text}"))
+}
+
+// ---- the pages
+
+fn root(path: &str) -> PathBuf {
+    Path::new(concat!(env!("CARGO_MANIFEST_DIR"), "/..")).join(path)
+}
+
+fn read(path: &str) -> Vec<u8> {
+    fs::read(root(path)).unwrap_or_else(|error| panic!("{path}: {error}"))
+}
+
+fn read_text(path: &str) -> String {
+    String::from_utf8(read(path)).unwrap_or_else(|error| panic!("{path}: {error}"))
+}
+
+/// A heading and what stands between it and the next one
+struct Section {
+    heading: String,
+    prose: Vec<String>,
+    blocks: Vec<Block>,
+}
+
+/// A fenced block
+struct Block {
+    kind: String,
+    body: String,
+}
+
+fn sections(page: &str) -> Vec<Section> {
+    let text = read_text(page);
+    let mut sections: Vec<Section> = Vec::new();
+    let mut lines = text.lines();
+    while let Some(line) = lines.next() {
+        if line.starts_with('#') {
+            let heading = line.trim_start_matches('#').trim().to_string();
+            sections.push(Section { heading, prose: Vec::new(), blocks: Vec::new() });
+            continue;
+        }
+        let section = sections.last_mut().expect("a page begins with a heading");
+        match line.strip_prefix("```") {
+            Some(kind) => {
+                let body = lines.by_ref().take_while(|line| *line != "```");
+                let body = body.map(|line| format!("{line}\n")).collect();
+                section.blocks.push(Block { kind: kind.to_string(), body });
+            }
+            None => section.prose.push(line.to_string()),
+        }
+    }
+    sections
+}
+
+fn section(page: &str, heading: &str) -> Section {
+    let found = sections(page).into_iter().find(|section| section.heading == heading);
+    found.unwrap_or_else(|| panic!("{page} has no section {heading:?}"))
+}
+
+impl Section {
+    /// The cells of its tables, row by row, without backquotes
+    fn rows(&self) -> Vec<Vec<String>> {
+        let row = |line: &String| {
+            let cells = line.strip_prefix("| ")?.strip_suffix(" |")?.split(" | ");
+            Some(cells.map(|cell| cell.trim().trim_matches('`').to_string()).collect())
+        };
+        self.prose.iter().filter_map(row).collect()
+    }
+
+    /// What stands between backquotes
+    fn quoted(&self) -> Vec<&str> {
+        self.prose.iter().flat_map(|line| line.split('`').skip(1).step_by(2)).collect()
+    }
+
+    /// Its blocks two by two, the second of this kind
+    fn pairs(&self, kind: &str) -> Vec<(&Block, &Block)> {
+        let pair = |two: &'_ [Block]| matches!(two, [_, below] if below.kind == kind);
+        assert!(self.blocks.chunks(2).all(pair), "{}: a block without its {kind}", self.heading);
+        self.blocks.chunks(2).map(|two| (&two[0], &two[1])).collect()
+    }
+}
+
+impl Block {
+    /// The run file of a text or of bytes
+    fn file(&self) -> Vec<u8> {
+        match self.kind.as_str() {
+            "drf" => said(&self.body),
+            "hex" => hex(&self.body),
+            kind => panic!("a block of kind {kind:?} where a run is expected:\n{}", self.body),
+        }
+    }
+}
+
+fn hex(text: &str) -> Vec<u8> {
+    let byte = |digits| u8::from_str_radix(digits, 16);
+    text.split_whitespace().map(byte).collect::<Result<_, _>>().expect("bytes in hex")
+}
+
+/// A number as pages write it
+fn number(text: &str) -> Option<usize> {
+    text.replace(',', "").parse().ok()
+}
+
+/// The number of a line that is a step's
+fn step_number(line: &str) -> Option<usize> {
+    line.split_whitespace().next().and_then(|word| word.parse().ok())
+}
+
+// ---- examples
+
+/// The names of the files in examples/ with this ending
+fn examples(ending: &str) -> Vec<String> {
+    let folder = fs::read_dir(root("examples")).expect("examples/");
+    let paths = folder.map(|entry| entry.expect("an entry of examples/").path());
+    let named = |path: PathBuf| {
+        let ours = path.extension().is_some_and(|extension| extension == ending);
+        ours.then(|| path.file_stem().unwrap_or_default().to_string_lossy().into_owned())
+    };
+    let mut names: Vec<String> = paths.filter_map(named).collect();
+    names.sort();
+    names
+}
+
+#[test]
+fn texts_are_the_sources_of_the_files() {
+    let names = examples("txt");
+    assert_eq!(names, examples("drf"));
+    for name in names {
+        let file = read(&format!("examples/{name}.drf"));
+        assert_eq!(said(&read_text(&format!("examples/{name}.txt"))), file, "{name}");
+    }
+}
+
+#[test]
+fn examples_have_their_listings() {
+    let mut told = Vec::new();
+    for section in sections("docs/EXAMPLES.md") {
+        let file = section.heading.split('`').nth(1);
+        let listings: Vec<&str> = section.blocks.iter().map(|block| block.body.as_str()).collect();
+        assert!(section.blocks.iter().all(|block| block.kind == "listing"), "{}", section.heading);
+        match file {
+            Some(file) => assert_eq!(listings, [listing(&read(file))], "{file}"),
+            None => assert!(listings.is_empty(), "{}: a listing of no file", section.heading),
+        }
+        told.extend(file.map(str::to_string));
+    }
+    told.sort();
+    let files: Vec<String> =
+        examples("drf").iter().map(|name| format!("examples/{name}.drf")).collect();
+    assert_eq!(told, files);
+}
+
+/// The lines of a text up to a step
+fn cut(text: &str, last: usize) -> String {
+    let kept = text.lines().filter(|line| step_number(line).is_none_or(|step| step <= last));
+    kept.map(|line| format!("{line}\n")).collect()
+}
+
+#[test]
+fn conflicts_beside_the_source_are_those_of_the_run() {
+    let text = read_text("examples/refutation.txt");
+    let heading = "`examples/refutation.drf`: Example 19, SCL(T) Refutation";
+    let rows = section("docs/EXAMPLES.md", heading).rows();
+    let mut shown = Vec::new();
+    for row in &rows {
+        let Some(last) = step_number(&row[0]) else { continue };
+        let state = inspection(&said(&cut(&text, last)));
+        assert_eq!(state.lines().last(), Some(format!("conflict {}", row[2]).as_str()), "{last}");
+        shown.push(row[0].clone());
+    }
+    let listing = listing(&said(&text));
+    let steps = listing.lines().filter_map(|line| line.rsplitn(3, ' ').nth(2));
+    let changing = steps.filter(|step| step.ends_with("conflict") || step.ends_with("resolve"));
+    assert_eq!(shown, changing.collect::<Vec<_>>());
+}
+
+#[test]
+fn example_6_is_refuted_with_one_constant() {
+    let clauses = cut(&read_text("examples/inconsistent.txt"), 0);
+    let search = "propagate 1 1 (a,a)\npropagate 2 2 (a,a)\nconflict 3 (a,a)\n";
+    let back = "skip\nskip\nskip\nresolve 2\nfactorize 1 2\nskip\nresolve 1\n";
+    assert!(listing(&said(&format!("{clauses}{search}{back}"))).ends_with("\nrefuted\n"));
+}
+
+/// A decision of either sign on a literal of clause 3, or none
+fn decisions(literal: usize, constant: char) -> [String; 3] {
+    let decide = |sign| format!("decide 3 {literal} {sign} ({constant})\n");
+    [String::new(), decide('+'), decide('~')]
+}
+
+#[test]
+fn example_7_has_no_step_left_on_its_clauses_below_0() {
+    let fixed = cut(&read_text("examples/exhaustive.txt"), 3);
+    for constant in ['a', 'b', 'c'] {
+        for q in decisions(1, constant) {
+            for r in decisions(2, constant) {
+                let decided = format!("{fixed}{q}{r}");
+                assert!(listing(&said(&decided)).ends_with("\nopen\n"), "{decided}");
+                no_step_on_clauses_3_to_6(&decided, constant);
+            }
+        }
+    }
+}
+
+fn no_step_on_clauses_3_to_6(decided: &str, constant: char) {
+    for clause in 3..=6 {
+        for step in [
+            format!("conflict {clause}"),
+            format!("propagate {clause} 1"),
+            format!("propagate {clause} 2"),
+        ] {
+            let text = format!("{decided}{step} ({constant})\n");
+            assert!(listing(&said(&text)).ends_with("\nstopped\n"), "{text}");
+        }
+    }
+}
+
+// ---- refusals
+
+/// The paper's words for each number, as the definitions quote them
+fn words() -> BTreeMap<usize, String> {
+    let text = read_text("crates/basis/specs/Refusals.antt");
+    let mut quoted = String::new();
+    let mut words = BTreeMap::new();
+    for line in text.lines() {
+        if let Some(quote) = line.strip_prefix("-- \"").and_then(|line| line.strip_suffix('"')) {
+            quoted = quote.to_string();
+        }
+        let number = line.split_once(" = ").and_then(|(_, number)| number.parse().ok());
+        words.extend(number.filter(|number| *number > 0).map(|number| (number, quoted.clone())));
+    }
+    words
+}
+
+/// The sections of the numbers, each with its number
+fn refusals() -> Vec<(usize, Section)> {
+    let numbered = |section: Section| {
+        let number = section.heading.split_once(": ").and_then(|(number, _)| number.parse().ok());
+        number.map(|number| (number, section))
+    };
+    sections("docs/REFUSALS.md").into_iter().filter_map(numbered).collect()
+}
+
+#[test]
+fn every_number_has_its_section() {
+    let headings: Vec<String> =
+        refusals().into_iter().map(|(_, section)| section.heading).collect();
+    let words: Vec<String> =
+        words().iter().map(|(number, words)| format!("{number}: {words}")).collect();
+    assert_eq!(words.len(), 18);
+    assert_eq!(headings, words);
+}
+
+/// Whether a listing ends with this refusal
+fn refuses(listing: &str, number: usize) -> bool {
+    let refused = format!(" refused {number}");
+    let bad = format!("bad file {number} ");
+    listing.lines().any(|line| line.ends_with(&refused) || line.starts_with(&bad))
+}
+
+#[test]
+fn refusals_are_those_of_their_examples() {
+    for (number, section) in refusals() {
+        let pairs = section.pairs("listing");
+        assert_eq!(pairs.is_empty(), number == 17, "{number}");
+        for (run, listing) in pairs {
+            let (printed, place) = judged(&run.file());
+            assert_eq!(listing.body, printed, "{number}: of\n{}", run.body);
+            assert!(refuses(&printed, number), "{number}: {printed} of\n{}", run.body);
+            let told = place == 0
+                || listing.body.starts_with("bad file")
+                || section.prose.iter().any(|line| line.ends_with(&format!("place {place}:")));
+            assert!(told, "{number}: place {place} is not told of\n{}", run.body);
+        }
+    }
+}
+
+/// A text without one of its lines, its steps without their numbers
+fn without(text: &str, line_left_out: usize) -> String {
+    let unnumbered = |line: &str| match step_number(line) {
+        Some(_) => line.trim_start_matches(|digit: char| digit.is_ascii_digit()).to_string(),
+        None => line.to_string(),
+    };
+    let lines = text.lines().enumerate().filter(|(index, _)| *index != line_left_out);
+    lines.map(|(_, line)| unnumbered(line) + "\n").collect()
+}
+
+#[test]
+fn no_step_of_an_example_can_be_left_out() {
+    for (number, section) in refusals() {
+        for (run, _) in section.pairs("listing").iter().filter(|(run, _)| run.kind == "drf") {
+            let steps =
+                run.body.lines().enumerate().filter(|(_, line)| step_number(line).is_some());
+            for (index, line) in steps {
+                let rest = listing(&said(&without(&run.body, index)));
+                assert!(!refuses(&rest, number), "{number}: {line} is not needed:\n{}", run.body);
+            }
+        }
+    }
+}
+
+#[test]
+fn refusal_17_has_its_theorem() {
+    let (_, section) = refusals().into_iter().find(|(number, _)| *number == 17).expect("17");
+    let quoted = section.quoted();
+    let [theorem, path] = quoted[..] else { panic!("a theorem and its file, not {quoted:?}") };
+    assert!(path.starts_with("crates/") && path.contains("/specs/"), "{path}");
+    let stated = format!("abbrev pub {theorem} : ");
+    assert!(read_text(path).contains(&stated), "{path} does not state {theorem}");
+}
+
+// ---- formats
+
+const FORMAT: &str = "docs/FORMAT.md";
+
+#[test]
+fn annotated_bytes_are_the_example() {
+    let mut file = Vec::new();
+    for row in section(FORMAT, "The paper's example, byte by byte").rows() {
+        let Some(place) = number(&row[0]) else { continue };
+        assert_eq!(place, file.len(), "{row:?}");
+        file.extend(hex(&row[1]));
+    }
+    assert_eq!(file, read("examples/first.drf"));
+}
+
+/// The value that the sources give to a name
+fn source(name: &str) -> usize {
+    match name {
+        "MOST_READ" => drf::MOST_READ,
+        "MOST_LISTING" => drf::MOST_LISTING,
+        "MOST_INSPECTION" => drf::MOST_INSPECTION,
+        "MOST_TEXT" => shell::text::MOST_TEXT,
+        "MOST_STEPS" => constant("crates/fields/src/lib.rt", "const MOST_STEPS: u32 = "),
+        "MOST_C" => constant("crates/basis/src/lib.rt", "pub const MOST_C: i32 = "),
+        "MostFileCounted" => {
+            constant("crates/runfile/specs/Claims.antt", "MostFileCounted = mostFile ≡ ")
+        }
+        _ => constant("crates/basis/src/lib.rt", &format!("pub const {name}: usize = ")),
+    }
+}
+
+/// The number behind these words at the start of a line
+fn constant(path: &str, before: &str) -> usize {
+    let text = read_text(path);
+    let value = text.lines().find_map(|line| line.strip_prefix(before));
+    let value = value.and_then(|value| value.trim_end_matches(';').parse().ok());
+    value.unwrap_or_else(|| panic!("{path} has no line {before:?}"))
+}
+
+#[test]
+fn limits_are_those_of_the_sources() {
+    let limits = section(FORMAT, "Limits").rows();
+    assert!(limits.len() > 10);
+    for row in &limits[1..] {
+        assert_eq!(number(&row[1]), Some(source(&row[2])), "{row:?}");
+    }
+    let fields = section(FORMAT, "The run file").rows();
+    let counts: Vec<_> = fields.iter().filter(|row| row.len() == 5 && row[3] == "3").collect();
+    assert_eq!(counts.len(), 8);
+    for row in counts {
+        let field = row[0].rsplit(": ").next().unwrap_or_default();
+        let limit = limits.iter().find(|limit| limit[0].starts_with(field));
+        let limit = limit.unwrap_or_else(|| panic!("{field} has no limit"));
+        assert_eq!(row[2], format!("0 to {}", limit[1]), "{field}");
+    }
+}
+
+/// What a file without constants, predicates and clauses begins with, as text
+const EMPTY: &str = "drf 1\nconstants 0\npredicates\n";
+
+/// A rule's arguments as a table names them, each as a text has it and as so many bytes
+fn argument(name: &str) -> (&str, usize) {
+    match name {
+        "none" => ("", 0),
+        "sign" => (" +", 1),
+        "instance" => (" ()", 1),
+        _ => (" 1", 1),
+    }
+}
+
+#[test]
+fn rules_are_as_the_page_says() {
+    let rows = section(FORMAT, "The run file").rows();
+    let rules: Vec<_> =
+        rows.iter().filter(|row| row.len() == 3 && number(&row[0]).is_some()).collect();
+    assert_eq!(rules.len(), 8);
+    for rule in rules {
+        let arguments: Vec<_> = rule[2].split(", ").map(argument).collect();
+        let text: String = arguments.iter().map(|argument| argument.0).collect();
+        let file = said(&format!("{EMPTY}{}{text}\n", rule[1]));
+        let step = &file[said(EMPTY).len()..];
+        assert_eq!(Some(step[0].into()), number(&rule[0]), "{rule:?}");
+        assert_eq!(step.len(), 1 + arguments.iter().map(|argument| argument.1).sum::<usize>());
+        assert!(listing(&file).starts_with(&format!("1 {} ", rule[1])), "{rule:?}");
+    }
+}
+
+/// The examples in a cell
+fn in_cell(cell: &str) -> Vec<&str> {
+    cell.split('`').step_by(2).collect()
+}
+
+#[test]
+fn examples_of_lines_are_read() {
+    let rows = section(FORMAT, "The text form").rows();
+    let of = |name: &str| {
+        let row = rows.iter().find(|row| row[0].starts_with(name));
+        in_cell(&row.unwrap_or_else(|| panic!("no row {name:?}"))[2])
+    };
+    for (constants, predicates) in of("constants").iter().zip(of("predicates")) {
+        let mut lines = of("drf");
+        lines.extend([constants, predicates]);
+        lines.extend(of("clause").into_iter().chain(of("NUMBER")));
+        said(&lines.join("\n"));
+    }
+    let clause = format!("clause 2 [{}] {}\n", of("atom").join(" "), of("literal").join(" "));
+    let step = |instance: &&str| format!("conflict 1 {instance}\n");
+    let decide = |sign: &&str| format!("decide 1 1 {sign} ()\n");
+    let steps: String =
+        of("instance").iter().map(step).chain(of("Decide").iter().map(decide)).collect();
+    said(&format!("drf 1\nconstants soda lime\npredicates Taken/2 1 0\n{clause}{steps}"));
+}
+
+#[test]
+fn text_form_is_as_the_page_says() {
+    let section = section(FORMAT, "The text form");
+    let first = read("examples/first.drf");
+    let [example, canonical, faults @ ..] = &section.blocks[..] else { panic!("no examples") };
+    assert_eq!(example.file(), first);
+    assert_eq!(canonical.kind, "canonical");
+    assert_eq!(Some(&canonical.body), shell::text::text(&first).as_ref());
+    assert!(!faults.is_empty());
+    for two in faults.chunks(2) {
+        let [broken, fault] = two else { panic!("a text without its fault") };
+        assert_eq!([&broken.kind[..], &fault.kind], ["broken", "fault"]);
+        match shell::text::bytes(broken.body.as_bytes()) {
+            Ok(_) => panic!("not broken:\n{}", broken.body),
+            Err(found) => assert_eq!(fault.body, format!("{found}\n")),
+        }
+    }
+}
+
+#[test]
+fn inspection_is_as_the_page_says() {
+    let section = section(FORMAT, "What `inspect` prints");
+    let pairs = section.pairs("inspection");
+    assert!(!pairs.is_empty());
+    for (run, shown) in pairs {
+        assert_eq!(shown.body, inspection(&run.file()));
+    }
+}
+
+// ---- links
+
+/// What a link to a heading is called
+fn anchor(heading: &str) -> String {
+    let kept = heading.to_lowercase().replace(' ', "-");
+    kept.chars().filter(|c| c.is_alphanumeric() || "-_".contains(*c)).collect()
+}
+
+#[test]
+fn links_lead_somewhere() {
+    for page in ["FORMAT.md", "REFUSALS.md", "EXAMPLES.md"] {
+        let text = read_text(&format!("docs/{page}"));
+        let links = text.split("](").skip(1).filter_map(|rest| rest.split(')').next());
+        for link in links {
+            let (to, place) = link.split_once('#').unwrap_or((link, ""));
+            let to = if to.is_empty() { page } else { to };
+            let anchors: Vec<String> =
+                sections(&format!("docs/{to}")).iter().map(|s| anchor(&s.heading)).collect();
+            let there = place.is_empty() || anchors.iter().any(|anchor| anchor == place);
+            assert!(there, "{page}: {link} leads nowhere, {to} has {anchors:?}");
+        }
+    }
+}
