@@ -46,9 +46,8 @@ impl<'a> Constants<'a> {
             constants.count = line.byte("a number of constants")?;
             line.end("the end of the line")?;
         } else {
-            let name = name_for(token);
-            let expected = format_args!("a number of constants from 0 to {MOST_BYTE}, or {name}");
-            return Err(line.fault(expected));
+            let count = format!("a number of constants from 0 to {MOST_BYTE}");
+            return Err(line.fault(format_args!("{count}, or {}", name_for(token))));
         }
         Ok(constants)
     }
@@ -87,9 +86,8 @@ impl<'a> Predicates<'a> {
         while is_name(line.token()) || is_number(line.token()) {
             predicates.declare(&mut line)?;
         }
-        let name = name_for(line.token());
-        let arity = format_args!("an arity from 0 to {MOST_BYTE}");
-        line.end(format_args!("{arity}, {name} with its arity, or the end of the line"))?;
+        let (name, or) = (name_for(line.token()), "or the end of the line");
+        line.end(format_args!("an arity from 0 to {MOST_BYTE}, {name} with its arity, {or}"))?;
         Ok(predicates)
     }
 
@@ -114,8 +112,8 @@ impl<'a> Predicates<'a> {
         let number = match (self.names.0.get(word), by_number(word)) {
             (Some(number), _) => *number,
             (None, Some(digits)) => {
-                let expected = format_args!("a predicate from P0 to P{MOST_BYTE}");
-                digits.parse().map_err(|_| line.fault(expected))?
+                let expected = || format!("a predicate from P0 to P{MOST_BYTE}");
+                digits.parse().map_err(|_| line.fault(expected()))?
             }
             (None, None) => return Err(line.fault("a predicate's name, or P and its number")),
         };

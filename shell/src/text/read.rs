@@ -157,7 +157,7 @@ impl Reader<'_> {
             Field::Sign => {
                 let positive = line.passes("+");
                 if !positive {
-                    line.one("~", "the sign, `+` or `~`")?;
+                    line.one("~", "a sign (`+` or `~`)")?;
                 }
                 file.push(positive.into());
             }
@@ -191,18 +191,19 @@ fn variable(line: &mut Line) -> Result<u8, Fault> {
     line.number(format_args!("a variable (a number from 0 to {MOST_BYTE})"))
 }
 
-/// The number at an atom's end
+/// What the number at an atom's end is expected to be
+const C: &str = "a number from -2147483648 to 2147483647";
+
 fn c(line: &mut Line) -> Result<i32, Fault> {
     let place = *line;
-    let range = || format!("a number from {} to {}", i32::MIN, i32::MAX);
-    let negative = line.passes("-");
+    let (sign, expected) = if line.passes("-") { ("-", "the digits of a number") } else { ("", C) };
     let digits = line.token();
     if !is_number(digits) {
-        return Err(line.fault(if negative { "digits".to_string() } else { range() }));
+        return Err(line.fault(expected));
     }
     line.pass();
-    let number = format!("{}{digits}", if negative { "-" } else { "" });
-    number.parse().map_err(|_| place.fault_of(range(), shown(&number)))
+    let number = format!("{sign}{digits}");
+    number.parse().map_err(|_| place.fault_of(C, shown(&number)))
 }
 
 /// Numbers in brackets, with a comma between every two
