@@ -5,11 +5,11 @@ use checker::generate::generate;
 use checker::step::Step;
 use drf::{inspect, judge, MOST_INSPECTION, MOST_LISTING};
 use shell::text::{bytes, text, MOST_TEXT};
-use std::ops::Range;
+use std::sync::atomic::{AtomicU64, AtomicUsize, Ordering::Relaxed};
 use std::thread;
 
 const FILES: usize = 20_000;
-const WORKERS: u64 = 2;
+const WORKERS: usize = 2;
 
 /// The bytes of a text that says a file
 fn bytes_of(text: &str) -> Vec<u8> {
@@ -95,36 +95,36 @@ fn wrong_if_refused(file: &[u8]) -> Option<&'static str> {
     differs.then_some("the text's bytes are others")
 }
 
-/// How many of the seeds' files are valid
-fn tried(seeds: Range<u64>) -> usize {
+/// The last seed taken, and how many files were valid
+static SEEDS: AtomicU64 = AtomicU64::new(0);
+static VALID: AtomicUsize = AtomicUsize::new(0);
+
+/// Takes seeds until there are enough valid files.
+fn take_seeds() {
     let mut buffer = vec![0; MOST_INSPECTION];
-    let mut count = 0;
-    for seed in seeds {
+    while VALID.load(Relaxed) < FILES {
+        let seed = SEEDS.fetch_add(1, Relaxed) + 1;
         let file = generate(seed);
-        let read = checker::file::read(&file);
-        count += usize::from(read.is_ok());
-        let wrong = match read {
-            Ok(run) => wrong(&file, &run, &mut buffer),
+        let wrong = match checker::file::read(&file) {
+            Ok(run) => {
+                VALID.fetch_add(1, Relaxed);
+                wrong(&file, &run, &mut buffer)
+            }
             Err(_) => wrong_if_refused(&file),
         };
         assert_eq!(wrong, None, "seed {seed}");
     }
-    count
 }
 
-/// Seeds are taken in parts until there are enough valid files.
 #[test]
 fn text_and_back() {
-    const PART: u64 = 250;
-    let (mut files, mut seeds) = (0, 0);
-    while files < FILES {
-        let part = |k| seeds + k * PART + 1..seeds + (k + 1) * PART + 1;
-        let workers: Vec<_> =
-            (0..WORKERS).map(part).map(|part| thread::spawn(move || tried(part))).collect();
-        files += workers.into_iter().map(|w| w.join().expect("nothing wrong")).sum::<usize>();
-        seeds += WORKERS * PART;
-    }
-    println!("{files} valid files of {seeds} seeds");
+    thread::scope(|scope| {
+        for _ in 0..WORKERS {
+            scope.spawn(take_seeds);
+        }
+    });
+    let (valid, seeds) = (VALID.load(Relaxed), SEEDS.load(Relaxed));
+    println!("{valid} valid files of {seeds} seeds");
 }
 
 /// The paper's example

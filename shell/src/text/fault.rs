@@ -49,14 +49,19 @@ pub(super) fn shown(token: &str) -> String {
         "`" => return "a backquote".to_string(),
         _ => {}
     }
-    let mut written: String = token.chars().take(MOST_SHOWN).map(legible).collect();
-    if token.chars().nth(MOST_SHOWN).is_some() {
-        written.push_str("..");
-    }
     if is_number(token.strip_prefix('-').unwrap_or(token)) {
-        return written;
+        return cut(token);
     }
-    format!("`{written}`{}", unusual(token))
+    format!("`{}`{}", cut(token), unusual(token))
+}
+
+/// A token, or the start of a long one
+pub(super) fn cut(token: &str) -> String {
+    let mut start: String = token.chars().take(MOST_SHOWN).map(legible).collect();
+    if token.chars().nth(MOST_SHOWN).is_some() {
+        start.push_str("..");
+    }
+    start
 }
 
 /// The code of the first character that is seen and is not ASCII: it may look like another one.

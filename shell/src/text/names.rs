@@ -1,6 +1,6 @@
 //! Constants and predicates: how many there are, and which names stand for them.
 
-use super::fault::Fault;
+use super::fault::{cut, Fault};
 use super::tokens::{in_word, is_name, is_number, Line, MOST_BYTE};
 use std::collections::HashMap;
 
@@ -96,7 +96,7 @@ impl<'a> Predicates<'a> {
         let name = line.token();
         if by_number(name).is_some() {
             let why = "as P and digits name a predicate by its number";
-            return Err(line.fault(format_args!("a name other than {name}, {why}")));
+            return Err(line.fault(format_args!("a name other than {}, {why}", cut(name))));
         }
         if is_name(name) {
             self.names.give(line, self.arities.len() as u8 + 1)?;

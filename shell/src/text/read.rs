@@ -1,6 +1,6 @@
 //! A text is read line by line, and its run file written.
 
-use super::fault::{shown, Fault};
+use super::fault::{cut, shown, Fault};
 use super::fields::{opening, Field, Version, MOST_STEPS};
 use super::names::{Constants, Predicates};
 use super::tokens::{is_name, is_number, Line, Lines, MOST_BYTE};
@@ -113,8 +113,8 @@ impl Reader<'_> {
         let arity = self.predicates.arity(predicate).unwrap_or(count);
         if arity != count {
             let plural = if arity == 1 { "" } else { "s" };
-            let expected = format!("{arity} argument{plural} for {name}");
-            return Err(place.fault_of(expected, count.to_string()));
+            let expected = format!("{arity} argument{plural} for {}", cut(name));
+            return Err(place.fault_of(expected, count));
         }
         literals.bytes.extend(arguments);
         Ok(())
