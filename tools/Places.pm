@@ -22,8 +22,9 @@ sub file_of {
     "target/gen/Rattle.$crate.proofs/proofs/$function/$module.antt";
 }
 
-# Places by the name of their record: {before} the record of the place before, {name} of what is known from here on, {holds} its fields, each
-# as name and type (after a call: the result, the last values of what was lent, what is promised of them); of the first place {holds} alone. Needs in their order, each as its name and the record of its place.
+# Places by the name of their record: {before} the record of the place before, {name} of what is known from here on, {holds} its fields, each as
+# name and type; after a call these are the result, the last values of what was lent, and what is promised of them. Of the first place {holds}
+# alone. Needs in their order, each as its name and the record of its place.
 sub places {
     my ($crate, $function) = @_;
     my $path = file_of($crate, $function);

@@ -1,4 +1,5 @@
-//! An independent checker of SCL(T) run files, in plain Rust, written from document 01.
+//! An independent checker of SCL(T) run files, in plain Rust, written from the paper, which is the
+//! specification, "What we are building and its rules".
 //!
 //! The checker: [`clause`], [`constraint`], [`merge`], [`state`], [`step`], [`rules`] are the
 //! calculus, [`file`] and [`admission`] its two ways in, [`listing`] what is printed; [`cases`] are offered

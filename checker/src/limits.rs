@@ -1,4 +1,4 @@
-//! The limits document 01 names.
+//! The limits that the paper names.
 
 /// "16 constants"
 pub const CONSTANTS: usize = 16;

@@ -1,4 +1,4 @@
-//! Document 01's twelve small examples, worked by hand.
+//! The paper's twelve small examples, worked by hand.
 
 mod common;
 

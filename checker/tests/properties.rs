@@ -1,4 +1,4 @@
-//! What document 01 says of every state reached, on generated runs.
+//! What the paper says of every state reached, on generated runs.
 
 mod common;
 

@@ -1,4 +1,4 @@
-//! Short ways to write clauses, states and the example of document 01.
+//! Short ways to write clauses, states and the paper's example.
 #![allow(dead_code)]
 
 use checker::clause::{Atom, Clause, Literal};
@@ -6,7 +6,7 @@ use checker::refusal::Refusal;
 use checker::state::State;
 use checker::step::Step;
 
-/// Document 01's example: "Input, 47 bytes, one constant, P of arity 1, x ≤ 10 ∥ P(x) and
+/// The paper's example: "Input, 47 bytes, one constant, P of arity 1, x ≤ 10 ∥ P(x) and
 /// x ≥ 3 ∥ ¬P(x)".
 pub const EXAMPLE: [u8; 47] = [
     0x44, 0x52, 0x46, 0x01, 0x00, 0x01, 0x01, 0x01, 0x02, 0x01, 0x01, 0x01, 0x01, 0x00, 0x0A, 0x00,

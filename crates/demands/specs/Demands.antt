@@ -69,7 +69,7 @@ pub record StepAnswered (r : State) (a : Answered) : Type 0 where
   pub in-table : a .number ≤ noRoom
   -- Number not 0: the record handed back is the one given.
   pub unchanged : ¬ (a .number ≡ accepted) → a .state ≡ r
-  -- What is handed back may be given to `step` startAgain, untested.
+  -- What is handed back may be given to `step` again, untested.
   pub made : Made (a .state)
 
 pub record Demand1 : Type 0 where
@@ -81,7 +81,8 @@ pub record Demand1 : Type 0 where
 
 -- ---- 2. "A step is accepted exactly when the side conditions of its SCL(T) rule hold, as document 01 reads them over whole numbers, and there is
 -- room; the next state is the one the rule names. From admitted clauses, a run that reaches a conflict without foreground literals shows that
--- no reading of the predicates over the whole numbers makes every input clause true." Document 01 is the paper.
+-- no reading of the predicates over the whole numbers makes every input clause true." Document 01 is the paper,
+-- "What we are building and its rules".
 
 -- Of the step x at the state s
 pub record RightAnswer (s : states.State) (x : states.Step) (a : Answered) : Type 0 where
