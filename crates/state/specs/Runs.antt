@@ -81,7 +81,7 @@ BehindReplays = (s : states.State) → Reached (plain whole) s → map stepOf (b
 abbrev pub StartsAgain : Type 0
 StartsAgain = (r : State) → Made r → Made (startAgain r)
 
--- So replay is a run of the code: where no conflict stands, the steps behind the trail, given to `step` from the state started startAgain, are each
+-- So replay is a run of the code: where no conflict stands, the steps behind the trail, given to `step` from the state started again, are each
 -- accepted and lead to the same record. Proved in proofs/Replaying.antt.
 abbrev pub CodeReplays : Type 0
 CodeReplays = (r : State) → Made r → r .run .stands ≡ false → CodeAccepts (startAgain r) (behind r) r
