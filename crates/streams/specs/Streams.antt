@@ -6,6 +6,6 @@ use Rattle.streams.specs.declared.Read.{Read}
 use Rattle.streams.specs.declared.Read.the-variants.{Bytes, Failed}
 
 -- Bytes that were read end within the buffer.
-abbrev pub Within : List ℕ → Read → Type 0
-Within buffer (Bytes n) = n ≤ length buffer
-Within buffer Failed = Unit {0}
+abbrev pub EndsWithin : List ℕ → Read → Type 0
+EndsWithin buffer (Bytes n) = n ≤ length buffer
+EndsWithin buffer Failed = Unit {0}

@@ -1,5 +1,5 @@
 // Standard input, output and error for programs: a fault of reading or writing is one line on standard error.
-ghost use Rattle.streams.specs.Streams.{Within};
+ghost use Rattle.streams.specs.Streams.{EndsWithin};
 use libc::STDERR_FILENO;
 use libc::STDIN_FILENO;
 use libc::STDOUT_FILENO;
@@ -18,7 +18,7 @@ fn tell(program: &[u8], fault: &[u8]) {
 
 // Reads standard input to its end, or to the buffer's. A read that a signal interrupts counts as one that failed.
 pub fn read_input(program: &[u8], buffer: &mut [u8]) -> Read
-    ensures { λ r. ⌜ Within (now (buffer .exit)) r ⌝ }
+    ensures { λ r. ⌜ EndsWithin (now (buffer .exit)) r ⌝ }
 {
     let mut at: usize = 0;
     while at < buffer.len() {
