@@ -11,8 +11,8 @@
 
 use checker::generate::generate;
 use checker::listing::{listing, run};
-use compare::steps::Near;
 use compare::steps;
+use compare::steps::Near;
 use drf::{judge, MOST_LISTING};
 use std::hint::black_box;
 use std::time::{Duration, Instant};
