@@ -130,21 +130,27 @@ static void print_least(struct work *work)
         printf("there is none\n");
 }
 
-/* The depths of threads that judge, and of those that inspect; over all files named, or none where one can't be read */
-static int measure(char **names, int count, struct stack stack, struct work *work, struct range *seen)
+/* The depths of threads that judge, and of those that inspect, over all files named, and the work of the deepest; or none where a file can't
+ * be read */
+static int measure(char **names, int count, struct stack stack, struct work *deep, struct range *seen)
 {
+    static struct work work;
     for (int k = 0; k < count; k++) {
-        if (!read_file(names[k], &work->file))
+        if (!read_file(names[k], &work.file))
             return 0;
-        for (work->inspects = 0; work->inspects < 2; work->inspects++)
-            note(&seen[work->inspects], deepest(stack, work_on, work));
+        for (work.inspects = 0; work.inspects < 2; work.inspects++) {
+            size_t depth = deepest(stack, work_on, &work);
+            if (depth > seen[0].most && depth > seen[1].most)
+                *deep = work;
+            note(&seen[work.inspects], depth);
+        }
     }
     return 1;
 }
 
 int main(int count, char **words)
 {
-    static struct work work;
+    static struct work deep;
     struct range seen[2] = {{MEASURED, 0}, {MEASURED, 0}};
     if (count < 2) {
         fprintf(stderr, "usage: stack FILE..\n");
@@ -152,13 +158,12 @@ int main(int count, char **words)
     }
     struct stack stack = some_stack(MEASURED);
     size_t empty = deepest(stack, no_work, NULL);
-    if (!measure(words + 1, count - 1, stack, &work, seen))
+    if (!measure(words + 1, count - 1, stack, &deep, seen))
         return 2;
     printf("stack: %zu bytes of a thread that does nothing\n", empty);
     printf("stack: %zu to %zu bytes of one that judges, over %d files\n", seen[0].least, seen[0].most, count - 1);
     printf("stack: %zu to %zu bytes of one that inspects\n", seen[1].least, seen[1].most);
-    work.inspects = 1;
-    print_least(&work);
+    print_least(&deep);
     size_t most = seen[0].most < seen[1].most ? seen[1].most : seen[0].most;
     printf("stack: %d bytes are stated, and %ld of them to spare\n", DRF_STACK, (long)DRF_STACK - (long)most);
     return most + SPARE <= DRF_STACK ? 0 : 1;
