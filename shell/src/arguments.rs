@@ -1,8 +1,8 @@
 //! What the words of the command line ask for.
 
 use crate::commands::{Command, COMMANDS};
+use crate::filenames::on_one_line;
 use crate::files::ROUND;
-use crate::names::shown;
 use crate::streams::Source;
 use std::ffi::{OsStr, OsString};
 use std::num::NonZero;
@@ -89,7 +89,7 @@ fn option(
             set(asked);
             Ok(())
         }
-        _ => Err(format!("unknown option {}", shown(word))),
+        _ => Err(format!("unknown option {}", on_one_line(word))),
     }
 }
 
@@ -102,7 +102,7 @@ fn after<'a>(entry: &Entry, word: &'a OsStr) -> Option<&'a [u8]> {
 
 fn threads(asked: &mut Asked, word: Option<&OsStr>) -> Result<(), String> {
     let number = word.and_then(OsStr::to_str).and_then(|text| text.parse().ok());
-    let found = word.map_or("nothing".to_string(), shown);
+    let found = word.map_or("nothing".to_string(), on_one_line);
     asked.threads = number
         .filter(|number| (1..=MOST_THREADS).contains(number))
         .ok_or(format!("-j takes a number from 1 to {MOST_THREADS}, found {found}"))?;
@@ -117,7 +117,7 @@ fn job(operands: Vec<OsString>, threads: usize) -> Result<Job, String> {
     let command = COMMANDS
         .iter()
         .find(|command| word == command.word)
-        .ok_or(format!("unknown command {}: it is none of {words}", shown(&word)))?;
+        .ok_or(format!("unknown command {}: it is none of {words}", on_one_line(&word)))?;
     let sources: Vec<Source> = operands.map(Source::of).collect();
     let inputs = sources.iter().filter(|source| **source == Source::Input).count();
     match sources.len() {

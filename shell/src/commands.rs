@@ -20,16 +20,17 @@ pub const COMMANDS: [Command; 4] = [
 ];
 
 /// What comes of a file: something on standard output, or a line on standard error in its stead.
-pub type Outcome = Result<Printed, Fault>;
+pub type Outcome = Result<Printed, Failed>;
 
 pub struct Printed {
     pub status: Status,
     pub bytes: Vec<u8>,
 }
 
-pub struct Fault {
+pub struct Failed {
     pub status: Status,
-    pub line: String,
+    /// What is wrong with the file
+    pub reason: String,
 }
 
 /// A function of the proved core
@@ -58,8 +59,8 @@ fn text(source: &Source) -> Outcome {
     let told = drf::judge(&file, &mut buffer).expect("the buffer has room for every listing");
     let Told { verdict, number, place, .. } = told;
     if verdict == Verdict::BadFile {
-        let words = format!("bad file {number} {place}: refusal {number} at byte {place}");
-        return Err(Fault { status: Status::Bad, line: format!("drf: {source}: {words}") });
+        let reason = format!("a bad file has no text: refusal {number} at byte {place}");
+        return Err(Failed { status: Status::Bad, reason });
     }
     let text = text::text(&file).expect("every valid file has a text");
     Ok(Printed { status: Status::Done, bytes: text.into_bytes() })
@@ -68,18 +69,11 @@ fn text(source: &Source) -> Outcome {
 /// One byte more than a text has at most shows that it has more.
 fn bytes(source: &Source) -> Outcome {
     let text = read(source, MOST_TEXT + 1)?;
-    match text::bytes(&text) {
-        Ok(bytes) => Ok(Printed { status: Status::Done, bytes }),
-        Err(text::Fault { line, column, expected, found }) => {
-            let line = format!("{source}:{line}:{column}: expected {expected}, found {found}");
-            Err(Fault { status: Status::Bad, line })
-        }
-    }
+    let bytes = text::bytes(&text)
+        .map_err(|fault| Failed { status: Status::Bad, reason: fault.to_string() })?;
+    Ok(Printed { status: Status::Done, bytes })
 }
 
-fn read(source: &Source, most: usize) -> Result<Vec<u8>, Fault> {
-    source.read(most).map_err(|fault| Fault {
-        status: Status::Stream,
-        line: format!("drf: {source}: {}", reason(&fault)),
-    })
+fn read(source: &Source, most: usize) -> Result<Vec<u8>, Failed> {
+    source.read(most).map_err(|fault| Failed { status: Status::Stream, reason: reason(&fault) })
 }

@@ -1,8 +1,8 @@
 //! A command on its files: side by side, and printed in the order given.
 
 use crate::arguments::Job;
-use crate::commands::{Fault, Outcome, Printed};
-use crate::names::shown;
+use crate::commands::{Failed, Outcome, Printed};
+use crate::filenames::on_one_line;
 use crate::status::Status;
 use crate::streams::{tell, Output, Source};
 use std::io;
@@ -14,7 +14,7 @@ use std::thread::{self, Builder};
 pub const ROUND: usize = 256;
 
 /// The bytes of a thread's stack: more than the proved core needs.
-const STACK: usize = 1 << 20;
+const THREAD_STACK: usize = 1 << 20;
 
 /// A fault of standard output ends it; what could not be read is told of in its turn.
 pub fn run(job: &Job, output: &mut Output) -> io::Result<Status> {
@@ -22,8 +22,7 @@ pub fn run(job: &Job, output: &mut Output) -> io::Result<Status> {
     let mut statuses = Vec::new();
     for round in job.sources.chunks(ROUND) {
         for (source, outcome) in round.iter().zip(outcomes(job, round)) {
-            let title = if several { title(source) } else { Vec::new() };
-            statuses.push(print(title, outcome, output)?);
+            statuses.push(print(source, several, outcome, output)?);
         }
     }
     if several {
@@ -36,7 +35,7 @@ pub fn run(job: &Job, output: &mut Output) -> io::Result<Status> {
 fn outcomes(job: &Job, round: &[Source]) -> Vec<Outcome> {
     let slots: Vec<OnceLock<Outcome>> = round.iter().map(|_| OnceLock::new()).collect();
     let next = AtomicUsize::new(0);
-    side_by_side(job.threads.min(round.len()), STACK, || loop {
+    side_by_side(job.threads.min(round.len()), THREAD_STACK, || loop {
         let index = next.fetch_add(1, Ordering::Relaxed);
         let Some(source) = round.get(index) else { break };
         slots[index].get_or_init(|| (job.command.of)(source));
@@ -55,18 +54,22 @@ fn side_by_side(threads: usize, stack: usize, work: impl Fn() + Sync) {
     });
 }
 
-fn title(source: &Source) -> Vec<u8> {
-    format!("file {}\n", shown(source.word())).into_bytes()
-}
-
-fn print(title: Vec<u8>, outcome: Outcome, output: &mut Output) -> io::Result<Status> {
+/// A file's name in front of what is printed of it, where there are several
+fn print(
+    source: &Source,
+    several: bool,
+    outcome: Outcome,
+    output: &mut Output,
+) -> io::Result<Status> {
     match outcome {
         Ok(Printed { status, bytes }) => {
-            output.write(&[title, bytes].concat())?;
+            let title = format!("file {}\n", on_one_line(source.word()));
+            let title = if several { title.as_bytes() } else { &[] };
+            output.write(&[title, &bytes].concat())?;
             Ok(status)
         }
-        Err(Fault { status, line }) => {
-            tell(&line);
+        Err(Failed { status, reason }) => {
+            tell(&format!("drf: {source}: {reason}"));
             Ok(status)
         }
     }
@@ -92,7 +95,7 @@ mod tests {
     #[test]
     fn a_thread_that_cant_be_started_is_done_without() {
         const TOO_MUCH: usize = 1 << 60;
-        for (threads, stack, works) in [(3, STACK, 3), (3, TOO_MUCH, 1)] {
+        for (threads, stack, works) in [(3, THREAD_STACK, 3), (3, TOO_MUCH, 1)] {
             let count = AtomicUsize::new(0);
             side_by_side(threads, stack, || {
                 count.fetch_add(1, Ordering::Relaxed);

@@ -2,8 +2,8 @@
 
 mod arguments;
 mod commands;
+mod filenames;
 mod files;
-mod names;
 mod status;
 mod streams;
 

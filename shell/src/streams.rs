@@ -1,7 +1,7 @@
 //! Standard input, output and error, and files, without the leniency of the standard library: a failed read is no end, a failed write is
 //! not lost, and a descriptor that is closed is not taken for an empty one.
 
-use crate::names::shown;
+use crate::filenames::on_one_line;
 use std::ffi::{c_int, OsStr, OsString};
 use std::fmt;
 use std::fs::File;
@@ -93,7 +93,7 @@ impl fmt::Display for Source {
     fn fmt(&self, to: &mut fmt::Formatter) -> fmt::Result {
         match self {
             Source::Input => to.write_str("standard input"),
-            Source::File(name) => to.write_str(&shown(name)),
+            Source::File(name) => to.write_str(&on_one_line(name)),
         }
     }
 }

@@ -1,4 +1,5 @@
-//! docs/FORMAT.md, docs/REFUSALS.md, docs/EXAMPLES.md and examples/, held against the tool: what a page says of a run is what is printed of it.
+//! docs/FORMAT.md, docs/REFUSALS.md, docs/EXAMPLES.md, README.md's example and examples/, held against the tool: what a page says of a run is
+//! what is printed of it. And the links of all pages.
 
 use std::collections::BTreeMap;
 use std::fs;
@@ -485,18 +486,40 @@ fn anchor(heading: &str) -> String {
     kept.chars().filter(|c| c.is_alphanumeric() || "-_".contains(*c)).collect()
 }
 
+/// Every page of the project
+fn pages() -> Vec<String> {
+    let folders = ["", "docs/", "checker/", "compare/"];
+    let in_folder = |folder: &str| {
+        let entries = fs::read_dir(root(folder)).expect("a folder of pages");
+        let names = entries.map(|entry| entry.expect("an entry").file_name());
+        let names = names.filter_map(|name| name.into_string().ok());
+        let pages = names.filter(|name| name.ends_with(".md"));
+        pages.map(|name| format!("{folder}{name}")).collect::<Vec<_>>()
+    };
+    folders.iter().flat_map(|folder| in_folder(folder)).collect()
+}
+
 #[test]
 fn links_lead_somewhere() {
-    for page in ["FORMAT.md", "REFUSALS.md", "EXAMPLES.md"] {
-        let text = read_text(&format!("docs/{page}"));
-        let links = text.split("](").skip(1).filter_map(|rest| rest.split(')').next());
-        for link in links {
+    let pages = pages();
+    assert!(pages.len() >= 13, "{pages:?}");
+    for page in &pages {
+        let text = read_text(page);
+        let folder = page.rsplit_once('/').map_or("", |(folder, _)| folder);
+        for link in text.split("](").skip(1).filter_map(|rest| rest.split(')').next()) {
             let (to, place) = link.split_once('#').unwrap_or((link, ""));
-            let to = if to.is_empty() { page } else { to };
-            let anchors: Vec<String> =
-                sections(&format!("docs/{to}")).iter().map(|s| anchor(&s.heading)).collect();
-            let there = place.is_empty() || anchors.iter().any(|anchor| anchor == place);
-            assert!(there, "{page}: {link} leads nowhere, {to} has {anchors:?}");
+            let beside = Path::new(folder).join(to).to_string_lossy().into_owned();
+            let to = if to.is_empty() { page.clone() } else { beside };
+            assert!(root(&to).exists(), "{page}: {link} leads nowhere");
+            let headed = |place| sections(&to).iter().any(|s| anchor(&s.heading) == place);
+            assert!(place.is_empty() || headed(place), "{page}: {to} has no heading for {link}");
         }
     }
+}
+
+#[test]
+fn the_readme_shows_the_first_listing() {
+    let listing = listing(&read("examples/first.drf"));
+    let lines = listing.lines().map(|line| format!("    {line}\n")).collect::<String>();
+    assert!(read_text("README.md").contains(&lines), "README.md has no lines\n{lines}");
 }

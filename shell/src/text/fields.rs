@@ -3,7 +3,7 @@
 const MARK: &[u8; 3] = b"DRF";
 
 /// The number of steps has 16 bits.
-pub const MOST_STEPS: usize = 65_535;
+pub const ROOM_FOR_STEPS: usize = 65_535;
 
 /// What a step has behind its rule
 #[derive(Clone, Copy)]

@@ -1,7 +1,7 @@
 //! A text is read line by line, and its run file written.
 
 use super::fault::{cut, shown, Fault};
-use super::fields::{opening, Field, Version, MOST_STEPS};
+use super::fields::{opening, Field, Version, ROOM_FOR_STEPS};
 use super::names::{Constants, Predicates};
 use super::tokens::{is_name, is_number, Line, Lines, MOST_BYTE};
 
@@ -125,7 +125,7 @@ impl Reader<'_> {
         if line.token() == "clause" {
             return Err(line.fault("every clause before the first step"));
         }
-        line.room(steps.count, MOST_STEPS, "steps")?;
+        line.room(steps.count, ROOM_FOR_STEPS, "steps")?;
         steps.count += 1;
         let numbered = is_number(line.token());
         if numbered {

@@ -5,7 +5,7 @@ use std::os::unix::ffi::OsStrExt;
 
 /// The name on one line, and no two names the same: a backslash is doubled, and what can end a line or is no text is written as `\n`,
 /// `\t`, `\r` or by its bytes, `\xNN`.
-pub fn shown(name: &OsStr) -> String {
+pub fn on_one_line(name: &OsStr) -> String {
     let mut text = String::new();
     for chunk in name.as_bytes().utf8_chunks() {
         for char in chunk.valid().chars() {
@@ -54,7 +54,7 @@ mod tests {
             (b"\xff\xc3", "\\xff\\xc3"),
             (b"", ""),
         ] {
-            assert_eq!(shown(OsStr::from_bytes(name)), text);
+            assert_eq!(on_one_line(OsStr::from_bytes(name)), text);
         }
     }
 }
