@@ -6,6 +6,8 @@ use std::process::exit;
 
 fn main() {
     println!("cargo:rerun-if-env-changed=DRF_LIBRARY");
+    // A sum of the sources, by which `run` has a file seen that was put back and has an old time.
+    println!("cargo:rerun-if-env-changed=DRF_SOURCES");
     let named = env::var_os("DRF_LIBRARY");
     let ours = Path::new(env!("CARGO_MANIFEST_DIR")).with_file_name("target").join("archive");
     let folder = named.as_ref().map_or(ours, PathBuf::from);

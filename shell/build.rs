@@ -10,6 +10,10 @@ fn main() {
     let kit = fs::read_to_string(format!("{ROOT}/KIT")).unwrap_or_default();
     println!("cargo:rerun-if-changed={ROOT}/KIT");
     println!("cargo:rerun-if-env-changed=DRF_COMMIT");
+    println!("cargo:rerun-if-env-changed=DRF_SOURCES");
+    // Whether the commit is dirty changes with a source.
+    println!("cargo:rerun-if-changed={ROOT}/shell/src");
+    println!("cargo:rerun-if-changed={ROOT}/drf/src");
     println!("cargo:rustc-env=DRF_KIT={}", or_unknown(kit.lines().next()));
     let commit = env::var("DRF_COMMIT").ok().or_else(described);
     println!("cargo:rustc-env=DRF_COMMIT={}", or_unknown(commit.as_deref()));
@@ -31,6 +35,9 @@ fn described() -> Option<String> {
 }
 
 fn git(words: &[&str]) -> Option<String> {
-    let done = Command::new("git").arg("-C").arg(ROOT).args(words).output().ok()?;
+    let mut git = Command::new("git");
+    // Those of another repository, if any
+    git.env_remove("GIT_DIR").env_remove("GIT_WORK_TREE");
+    let done = git.arg("-C").arg(ROOT).args(words).output().ok()?;
     done.status.success().then(|| String::from_utf8_lossy(&done.stdout).into_owned())
 }

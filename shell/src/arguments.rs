@@ -101,7 +101,9 @@ fn after<'a>(entry: &Entry, word: &'a OsStr) -> Option<&'a [u8]> {
 }
 
 fn threads(asked: &mut Asked, word: Option<&OsStr>) -> Result<(), String> {
-    let number = word.and_then(OsStr::to_str).and_then(|text| text.parse().ok());
+    let digits =
+        word.and_then(OsStr::to_str).filter(|text| text.bytes().all(|b| b.is_ascii_digit()));
+    let number = digits.and_then(|digits| digits.parse().ok());
     let found = word.map_or("nothing".to_string(), on_one_line);
     asked.threads = number
         .filter(|number| (1..=MOST_THREADS).contains(number))

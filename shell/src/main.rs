@@ -11,7 +11,7 @@ use arguments::Request;
 use status::Status;
 use std::io;
 use std::process::ExitCode;
-use streams::{reason, tell, Output};
+use streams::{keep_closed, reason, tell, Output};
 
 const HELP: &str = include_str!("help.txt");
 
@@ -34,6 +34,7 @@ fn main() -> ExitCode {
 
 /// Standard output is opened before anything is judged: without it there is nobody to tell.
 fn answered(request: Request) -> io::Result<Status> {
+    keep_closed()?;
     let mut output = Output::open()?;
     let status = match request {
         Request::Run(job) => files::run(&job, &mut output)?,

@@ -6,12 +6,14 @@ use std::ffi::{c_int, OsStr, OsString};
 use std::fmt;
 use std::fs::File;
 use std::io::{self, Read, Write};
-use std::os::fd::{AsFd, IntoRawFd};
+use std::os::fd::{AsFd, AsRawFd, IntoRawFd};
+use std::os::unix::net::UnixDatagram;
 use std::sync::atomic::{AtomicBool, Ordering};
 
 extern "C" {
     fn fcntl(descriptor: c_int, command: c_int, ...) -> c_int;
     fn close(descriptor: c_int) -> c_int;
+    fn dup2(descriptor: c_int, place: c_int) -> c_int;
 }
 
 /// The command of `fcntl` that asks for a descriptor's flags, and fails if it is closed
@@ -20,9 +22,9 @@ const F_GETFD: c_int = 1;
 const INPUT: usize = 0;
 const OUTPUT: usize = 1;
 
-/// Which of standard input and output was closed when the program was started. Before `main` the standard library opens /dev/null in
+/// Which of standard input, output and error was closed when the program was started. Before `main` the standard library opens /dev/null in
 /// their places, which reads as empty and takes what is written.
-static CLOSED: [AtomicBool; 2] = [AtomicBool::new(false), AtomicBool::new(false)];
+static CLOSED: [AtomicBool; 3] = [const { AtomicBool::new(false) }; 3];
 
 #[used]
 #[link_section = ".init_array"]
@@ -35,6 +37,21 @@ extern "C" fn look_for_closed() {
         let flags = unsafe { fcntl(descriptor, F_GETFD) };
         closed.store(flags == -1, Ordering::Relaxed);
     }
+}
+
+/// Puts a socket in the place of each descriptor that was closed. What stands there now would be opened, and read as an empty file, under a
+/// name such as /dev/stdin; a socket can't be opened by a name.
+pub fn keep_closed() -> io::Result<()> {
+    for (descriptor, closed) in (0..).zip(&CLOSED) {
+        if closed.load(Ordering::Relaxed) {
+            let socket = UnixDatagram::unbound()?;
+            // SAFETY: nothing holds the descriptor that is replaced: the standard library only put it there, and uses it by its number.
+            if unsafe { dup2(socket.as_raw_fd(), descriptor) } == -1 {
+                return Err(io::Error::last_os_error());
+            }
+        }
+    }
+    Ok(())
 }
 
 fn open_at_start(descriptor: usize) -> io::Result<()> {

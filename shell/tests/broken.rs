@@ -78,6 +78,7 @@ fn broken_texts() {
     texts.sort();
     texts.dedup();
     assert_eq!(texts.len(), cases.len(), "a text stands twice");
+    assert!(texts.len() >= 200, "{} broken texts", texts.len());
     println!("{} broken texts", texts.len());
 }
 

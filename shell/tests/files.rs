@@ -136,8 +136,21 @@ fn help_and_version() {
     let kit = fs::read_to_string(format!("{ROOT}/KIT")).expect("the kit's id");
     let ended = drf(&folder, &["--version"]);
     let (first, second) = ended.out.split_once('\n').expect("two lines");
-    assert!(first.strip_prefix("drf ").is_some_and(|commit| !commit.is_empty()), "{first}");
+    let commit = first.strip_prefix("drf ").expect("the commit");
+    assert!(commit.starts_with(&described()), "{commit}");
     assert_eq!((second, ended.status), (format!("kit {kit}").as_str(), Some(0)));
+}
+
+/// The commit, without its dirt; "unknown" where git does not tell it.
+fn described() -> String {
+    let words = ["-C", ROOT, "describe", "--always", "--abbrev=12"];
+    let told = std::process::Command::new("git").args(words).output();
+    match told {
+        Ok(told) if told.status.success() => {
+            String::from_utf8_lossy(&told.stdout).trim().to_string()
+        }
+        _ => "unknown".to_string(),
+    }
 }
 
 /// The text form of every file that is not bad goes back to its bytes.

@@ -82,6 +82,7 @@ fn folder() -> Folder {
 fn every_use_ends_as_told() {
     let folder = folder();
     let uses: Vec<_> = USES.split("\n# ").skip(1).map(Use::read).collect();
+    assert!(uses.len() >= 60, "{} uses", uses.len());
     println!("| use | command | status | first line |\n|---|---|---|---|");
     let mut wrong = Vec::new();
     for told in &uses {
