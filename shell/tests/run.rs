@@ -213,7 +213,7 @@ fn a_missing_tool_is_named() {
 #[test]
 fn sources_are_told_by_what_they_hold() {
     let folder = project("run-sources");
-    let mut sum = |source: &str| {
+    let sum = |source: &str| {
         folder.put("project/drf/src/lib.rs", source);
         assert_eq!(ended(&mut shell(&folder, "./link first.drf </dev/null")).status, Some(20));
         fs::read_to_string(folder.0.join("asked.sum")).expect("a sum")
