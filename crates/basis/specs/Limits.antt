@@ -42,3 +42,7 @@ mostTested = 184
 -- "c is a signed 32-bit number from −1,000,000 to 1,000,000."
 abbrev pub mostC : ℕ
 mostC = 1000000
+
+-- "Make the input clauses from up to 48 rows of key and result": of a lookup table. There is a clause for each row.
+abbrev pub mostRows : ℕ
+mostRows = 48

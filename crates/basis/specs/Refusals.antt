@@ -1,4 +1,4 @@
--- The refusal numbers, each named once, with the paper's words.
+-- The refusal numbers, each named once, with the words of the paper and, from 19 on, of the change requests.
 use Prim.Native.Nat.{ℕ}
 
 -- No refusal: accepted.
@@ -76,3 +76,15 @@ keptNotPossible = 17
 -- "no room: clause limits counted after merging (4), trail (1, 2, 7), learned clauses (7), constants (8)"
 abbrev pub noRoom : ℕ
 noRoom = 18
+
+-- "more than 48 rows", of a lookup table
+abbrev pub tooManyRows : ℕ
+tooManyRows = 19
+
+-- "keys not strictly rising, or a key or result outside ±1,000,000"
+abbrev pub notInOrder : ℕ
+notInOrder = 20
+
+-- "buffer too short"
+abbrev pub bufferShort : ℕ
+bufferShort = 21

@@ -23,6 +23,8 @@ pub const MOST_TESTED: usize = 184;
 
 pub const MOST_C: i32 = 1000000;
 
+pub const MOST_ROWS: usize = 48;
+
 pub const ENDS_INSIDE: u8 = 1;
 
 pub const WRONG_MARK: u8 = 2;
@@ -58,6 +60,12 @@ pub const NOT_ABOVE: u8 = 16;
 pub const KEPT_NOT_POSSIBLE: u8 = 17;
 
 pub const NO_ROOM: u8 = 18;
+
+pub const TOO_MANY_ROWS: u8 = 19;
+
+pub const NOT_IN_ORDER: u8 = 20;
+
+pub const BUFFER_SHORT: u8 = 21;
 
 // The atom record: a background atom p - q at most c, over places (a variable or a constant by its number; 0 is the number zero).
 pub struct Atom {
