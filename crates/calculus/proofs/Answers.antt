@@ -69,13 +69,13 @@ each-holds k n [] t z e = tt
 each-holds k n (c ∷ cs) t z (inl (h, e)) = absurd (omega (arith, ltb→lt k (c .refusal) (and-l (ltb k (c .refusal)) (rising (c .refusal) cs) t)))
 each-holds k n (c ∷ cs) t z (inr (h, r)) = (h, each-holds (c .refusal) n cs (and-r (ltb k (c .refusal)) (rising (c .refusal) cs) t) z r)
 
-none-lacking : (n : ℕ) (cs : List Condition) → EachHolds cs → FirstLacking n cs → n ≡ accepted
+pub none-lacking : (n : ℕ) (cs : List Condition) → EachHolds cs → FirstLacking n cs → n ≡ accepted
 none-lacking n [] h e = e
 none-lacking n (c ∷ cs) h (inl (k, e)) = absurd (k (h .0))
 none-lacking n (c ∷ cs) h (inr (k, r)) = none-lacking n cs (h .1) r
 
 -- Only one is the first.
-lacking-once : (n m : ℕ) (cs : List Condition) → FirstLacking n cs → FirstLacking m cs → n ≡ m
+pub lacking-once : (n m : ℕ) (cs : List Condition) → FirstLacking n cs → FirstLacking m cs → n ≡ m
 lacking-once n m [] d e = d ∙ sym e
 lacking-once n m (c ∷ cs) (inl (h, d)) (inl (k, e)) = d ∙ sym e
 lacking-once n m (c ∷ cs) (inl (h, d)) (inr (k, e)) = absurd (h k)

@@ -31,9 +31,9 @@ use Rattle.calculus.proofs.OnTrail.{on-in, on-out, other-false-in, othe
 
 -- Check by check, the same number and the same meaning
 infixr 22 _also_
-pub data Match : List Check → List Condition → Type 1 where
-  all : Match [] []
-  _also_ : {b : Bool} {P : Type 0} {n : ℕ} {cs : List Check} {ds : List Condition} → T b ↔ P → Match cs ds → Match (b or n ∷ cs) (P otherwise n ∷ ds)
+pub data Matched : List Check → List Condition → Type 1 where
+  all : Matched [] []
+  _also_ : {b : Bool} {P : Type 0} {n : ℕ} {cs : List Check} {ds : List Condition} → T b ↔ P → Matched cs ds → Matched (b or n ∷ cs) (P otherwise n ∷ ds)
 
 -- Every check holds.
 abbrev pub AllOk : List Check → Type 0
@@ -44,11 +44,11 @@ pub pass : (cs : List Check) → AllOk cs → firstRefusal cs ≡ accepted
 pass [] k = refl
 pass (c ∷ cs) k = rw (T→eq (c .ok) (k .0)) (pass cs (k .1))
 
-pub all-say : {cs : List Check} {ds : List Condition} → Match cs ds → AllOk cs ↔ EachHolds ds
+pub all-say : {cs : List Check} {ds : List Condition} → Matched cs ds → AllOk cs ↔ EachHolds ds
 all-say all = (λ u. u, λ u. u)
 all-say (p also m) = p & all-say m
 
-pub first-lacking : {cs : List Check} {ds : List Condition} → Match cs ds → FirstLacking (firstRefusal cs) ds
+pub first-lacking : {cs : List Check} {ds : List Condition} → Matched cs ds → FirstLacking (firstRefusal cs) ds
 first-lacking all = refl
 first-lacking (_also_ {b} {P} {n} {cs} {ds} p m) = go b p (first-lacking m)
   where
@@ -129,7 +129,7 @@ not-again-says g D =
 -- ---- the rules
 
 -- Each check says its condition; d tells whether the question's atoms are possible.
-pub matched : (N : Numbers) (s : State) (b : Bool) (x : Step) → T b ↔ Possible N (s .constants) (question s x) → Match (asks b s x) (conditions N s x)
+pub matched : (N : Numbers) (s : State) (b : Bool) (x : Step) → T b ↔ Possible N (s .constants) (question s x) → Matched (asks b s x) (conditions N s x)
 matched N s b (Propagate c l τ) d =
     let C = clauseAt (clauses s) c in
     let g = ground τ (literalAt C l) in

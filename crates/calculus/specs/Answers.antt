@@ -20,7 +20,7 @@ AnswerUnique N = AnswersOnce (plain N)
 abbrev pub AcceptedExactlyIfAllowed : Numbers → Type 0
 AcceptedExactlyIfAllowed N = (s : State) (x : Step) (a : Answer) → Judged N s x a → (a .number ≡ accepted) ↔ Allowed N s x
 
--- The number is 0 or one of the table, of which 18 is the largest.
+-- The number is 0 or one of the paper's table, of which 18 is the largest.
 abbrev pub NumberInTable : Numbers → Type 0
 NumberInTable N = (s : State) (x : Step) (a : Answer) → Judged N s x a → a .number ≤ noRoom
 

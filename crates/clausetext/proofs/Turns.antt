@@ -10,7 +10,7 @@ use Rattle.lists.proofs.Walks.{take-more}
 use Rattle.clauses.specs.Counts.{Counts}
 use Rattle.clauses.proofs.Counts.{counted-length}
 use Rattle.text.specs.Text.{Wrote}
-use Rattle.text.proofs.Text.{and-then, as-text, wrote-once}
+use Rattle.text.proofs.Text.{and-then, as-text, wrote-none, wrote-once}
 use Rattle.clausetext.specs.ClauseText.{inTurn, parting}
 use Rattle.clausetext.specs.Room.{Put, PutOnce}
 
@@ -28,9 +28,6 @@ module _ {A : Type 0} (f : ℕ → A → List ℕ) where
       ∙ ap (λ (k : ℕ). inTurn n f (take j xs) ++ f (n + k) (getD xs j z)) (length-take-le j xs (omega arith))
 
 -- ---- writers
-
-pub wrote-none : (d : List ℕ) (i : ℕ) → Wrote d i [] d i
-wrote-none d i = record { next = omega arith; left = refl }
 
 pub parting-first : (w : List ℕ) (j : ℕ) → j ≡ 0 → [] ≡ parting w j
 parting-first w j e = rw e

@@ -2,10 +2,11 @@
 use mathlib.Core.Path.{_≡_, sym, subst}
 use mathlib.Core.Bool.{Bool, true, false, not}
 use Prim.Native.Nat.{ℕ, _+_, _≤_}
+use native.Mathlib.Decide.{map-dec}
 use native.Mathlib.Omega.{arith}
 use lib.Dec.{T}
 use lib.IntN.{ℤ, negsuc, negℤ, _+ℤ_, _-ℤ_}
-use lib.Signed.{_≤ℤ_, _<ℤ_, ltZ, ltZ-yes, ltZ-no}
+use lib.Signed.{_≤ℤ_, _<ℤ_, leZ, leZ-yes, ltZ, ltZ-yes, ltZ-no}
 use Rattle.integers.specs.Sides.{Within}
 use Rattle.integers.proofs.Linear.{le→, lt→, →le, →lt, →eq, sum, negated}
 
@@ -14,6 +15,18 @@ ltZ-true e = ltZ-yes (subst T (sym e) tt)
 
 pub ltZ-false : {a b : ℤ} → ltZ a b ≡ false → b ≤ℤ a
 ltZ-false e = ltZ-no (subst (λ (t : Bool). T (not t)) (sym e) tt)
+
+-- The order is decided.
+
+test-decided : (t : Bool) → Dec (T t)
+test-decided true = yes tt
+test-decided false = no (λ h. h)
+
+pub at-most-decided : (a b : ℤ) → Dec (a ≤ℤ b)
+at-most-decided a b = map-dec leZ-yes (λ h. h .le) (test-decided (leZ a b))
+
+pub below-decided : (a b : ℤ) → Dec (a <ℤ b)
+below-decided a b = map-dec ltZ-yes (λ h. h .lt) (test-decided (ltZ a b))
 
 pub <→≤ : {a b : ℤ} → a <ℤ b → a ≤ℤ b
 <→≤ {a} {b} h = →le a b (omega (arith, lt→ h))

@@ -4,9 +4,7 @@ use mathlib.Core.Path.{_≡_, refl, subst, sym, ap, transport⁻¹, _∙_}
 use mathlib.Core.List.{List, _++_}
 use Prim.Native.Nat.{ℕ, _+_, _≤_, _<_}
 use native.Mathlib.Omega.{arith}
-use native.Mathlib.Nat.{zero-add}
 use lib.ListN.{length, drop, length-append}
-use lib.Seq.{sets-eq}
 use Rattle.basis.specs.Numbers.{whole}
 use Rattle.calculus.specs.Rules.{Answer}
 use Rattle.calculus.specs.Runs.{plain}
@@ -16,7 +14,7 @@ use Rattle.header.specs.declared.HeaderRead.{HeaderRead}
 use Rattle.steps.specs.Records.{fileAnswer}
 use Rattle.steps.proofs.Files.{refused-file}
 use Rattle.text.specs.Text.{Wrote}
-use Rattle.text.proofs.Text.{and-then, same-long}
+use Rattle.text.proofs.Text.{and-then, at-front, same-long}
 use Rattle.clauses.specs.declared.Clause.{Clause}
 use Rattle.rules.specs.declared.Run.{Run}
 use Rattle.listing.specs.Lines.{badLine, closing, lastLine, mostBad, mostLast}
@@ -36,24 +34,22 @@ use Rattle.judging.specs.declared.Written.the-variants.{Bytes, Short}
 -- ---- what was written
 
 module _ {after : Answer → List ℕ} {most : ℕ} {s d d′ : List ℕ} {n k p : ℕ} (room : most ≤ length d) where
-  -- A text written from the first byte on stands at the front, and the bytes past it stay.
-  at-front : {w : List ℕ} → Ends (plain whole) s k p → Printed (plain whole) after s w → length w ≤ most → Wrote d 0 w d′ n → Leaves (plain whole) after most s d d′ (Bytes n k p)
-  at-front {w} e q h a =
-      let count : n ≡ length w = omega (arith, a .next) in
-      (room, e, (w, q, count, a .left ∙ sets-eq w d 0 (omega arith) ∙ ap (λ (k : ℕ). w ++ drop k d) (zero-add (length w) ∙ sym count)))
+  -- A text written from the first byte on
+  leaves-text : {w : List ℕ} → Ends (plain whole) s k p → Printed (plain whole) after s w → length w ≤ most → Wrote d 0 w d′ n → Leaves (plain whole) after most s d d′ (Bytes n k p)
+  leaves-text {w} e q h a = let f = at-front (omega arith) a in (room, e, (w, q, f .0, f .1))
 
   -- The steps' lines and what comes after them
   pub leaves-run : {d₁ v : List ℕ} {run : Run} {table : List Clause} {at : ℕ} (ran : Ran s d d₁ run table k p at) → v ≡ after (ran .answer) → at + length v ≤ most
       → Wrote d₁ at v d′ n → Leaves (plain whole) after most s d d′ (Bytes n k p)
   leaves-run {d₁} {v} ran e h a =
-      at-front (rw (ran .number-is) (rw (ran .place-is) (withStep (ran .says) (ran .next) (ran .answer) (ran .is) (ran .tried)))) (subst (λ (u : List ℕ). Printed (plain whole) after s (ran .lines ++ u)) (sym e) (goodFile (ran .says) (ran .next) (ran .answer) (ran .is) (ran .tried)))
+      leaves-text (rw (ran .number-is) (rw (ran .place-is) (withStep (ran .says) (ran .next) (ran .answer) (ran .is) (ran .tried)))) (subst (λ (u : List ℕ). Printed (plain whole) after s (ran .lines ++ u)) (sym e) (goodFile (ran .says) (ran .next) (ran .answer) (ran .is) (ran .tried)))
       (omega (arith, length-append (ran .lines) v, ran .wrote .next)) (and-then (ran .wrote) a)
 
   -- The refusal
   pub leaves-bad : (h : HeaderRead) → h ≡ fileAnswer s → h .at ≡ C.Refused k p → k < 256 → p < 18446744073709551616 → mostBad ≤ most
       → Wrote d 0 (badLine k p) d′ n → Leaves (plain whole) after most s d d′ (Bytes n k p)
   leaves-bad h e q small low m a =
-      let is = refused-file s h e k p q in at-front (withFile k p is) (badFile k p is) (omega (arith, length-bad k p small low)) a
+      let is = refused-file s h e k p q in leaves-text (withFile k p is) (badFile k p is) (omega (arith, length-bad k p small low)) a
 
 -- .. which fits every text's room
 pub bad-fits : (b : Bool) → mostBad ≤ mostText b

@@ -9,3 +9,4 @@ pub mod Walk
 pub mod Arrays
 pub mod Walks
 pub mod Parts
+pub mod Decided

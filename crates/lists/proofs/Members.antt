@@ -11,6 +11,10 @@ use Rattle.lists.proofs.Tests.{and-i, and-l, and-r}
 use Rattle.lists.specs.Lists.{allOf, anyOf, keepIf, pairUp, without}
 
 module _ {A : Type 0} where
+  -- A member is the first or a later one.
+  pub first-or-later : {x a : A} {l : List A} {P : Type 0} → List·Memᴰ a (x ∷ l) → (a ≡ x → P) → (List·Memᴰ a l → P) → P
+  first-or-later m f g = ⊎-elim f g (List·Memᴰ·cases-cons m)
+
   pub keepIf-in : (p : A → Bool) {a : A} (l : List A) → List·Memᴰ a l → T (p a) → List·Memᴰ a (keepIf p l)
   keepIf-in p [] m t = m
   keepIf-in p {a} (x ∷ xs) m t = go (λ h. keepIf-in p xs h t) (p x) refl (List·Memᴰ·cases-cons m)

@@ -7,6 +7,7 @@ use Prim.Native.Nat.{ℕ}
 use lib.Dec.{T, T-not, eqb, eqb-refl, eqb→eq}
 use lib.IntN.{negsuc, pos, ℤ}
 use Rattle.lists.specs.Lists.{sameList, sameWhole}
+use Rattle.lists.specs.Tests.{DecidesOnce}
 
 -- A test holds or fails, with the evidence kept
 pub data Said (b : Bool) : Type 0 where
@@ -85,3 +86,9 @@ pub or-either : (a b : Bool) → T a ⊎ T b → T (a || b)
 or-either true b h = tt
 or-either false b (inl h) = absurd h
 or-either false b (inr h) = h
+
+pub decides-once : DecidesOnce
+decides-once P true true h k = refl
+decides-once P true false h k = absurd (k h)
+decides-once P false true h k = absurd (h k)
+decides-once P false false h k = refl

@@ -22,13 +22,14 @@ use Rattle.lists.specs.Lists.{allOf, sameList}
 use Rattle.runfile.specs.Claims.{ReadBack, Sayable, StepHeld}
 use Rattle.runfile.specs.File.{count, clause, instance, File, argument, atom, byte, classChecks, clause, constant, file, header, instance, letters, literal, littleEndian, mostSteps, number, ruled, signedOf, step, within}
 use Rattle.runfile.specs.Readers.{Reader, _judged_, _then_, bad, field, give, got, onward, times}
-use Rattle.runfile.specs.Written.{bytesOf, joined, unsigned, written, writtenAtom, writtenClause, writtenHeader, writtenInstance, writtenLiteral, writtenStep}
+use Rattle.runfile.specs.Written.{bytesOf, headerWith, joined, unsigned, written, writtenArgument, writtenAtom, writtenClause, writtenHeader, writtenInstance, writtenLiteral, writtenStep}
 use Rattle.calculus.proofs.Admitting.{clause-accepted-exactly}
 use Rattle.calculus.specs.Checks.{Check, _or_, between}
 use Rattle.calculus.specs.Class.{InClass, Limited, arityOf, properAtom, properLiteral}
 use Rattle.calculus.specs.Clauses.{Clause, arguments}
 use Rattle.calculus.specs.States.{Backtrack, Conflict, Decide, Factorize, Grow, Propagate, Resolve, Skip, Step, Unknown}
 use Rattle.runfile.proofs.Given.{Passes, allChecks, argumentFits, clean, inRange, passes-all}
+use Rattle.runfile.proofs.Joined.{joined-last}
 
 -- Wherever the bytes w stand, the reading f gives x.
 pub record Back {A : Type 0} (f : Reader A) (w : List ℕ) (x : A) : Type 0 where
@@ -53,10 +54,6 @@ back-none x = record { back = λ s i rest e. ap (got x) (omega arith) }
 
 pub back-judged : {A : Type 0} {f : Reader A} (checks : A → List Check) {w : List ℕ} {x : A} → Back f w x → Passes (checks x) → Back (f judged checks) w x
 back-judged checks {w} {x} b p = record { back = λ s i rest e. rw (b .back s i rest e, passes-all (checks x) p) }
-
-joined-last : {A : Type 0} (w : A → List ℕ) (xs : List A) (x : A) → joined w (xs ++ (x ∷ [])) ≡ joined w xs ++ w x
-joined-last w [] x = append-nil (w x)
-joined-last w (y ∷ xs) x = rw (joined-last w xs x) (sym (append-assoc (w y) (joined w xs) (w x)))
 
 module _ {A : Type 0} (f : Reader A) (w : A → List ℕ) where
   one-more : (done : List A) (x : A) → Back (times (length done) f) (joined w done) done → Back f (w x) x
@@ -135,38 +132,38 @@ back-atom v a h =
     (and-i (leb (a .q) v) (leb 1 (a .p + a .q)) hq (and-l (leb 1 (a .p + a .q)) (inRange (a .c)) h″), tt))
     (back-last (λ c. record { p = a .p; q = a .q; c = c }) (back-constant (a .c) (and-r (leb 1 (a .p + a .q)) (inRange (a .c)) h″))))
 
--- What is written for the kth of n arguments
-abbrev pub slot : ℕ → ℕ → ℕ → List ℕ
-slot n k x = cond (leb k n) (x ∷ []) []
-
-back-argument : (v n k x : ℕ) → T (argumentFits v n k x) → Back (argument v n k) (slot n k x) x
+back-argument : (v n k x : ℕ) → T (argumentFits v n k x) → Back (argument v n k) (writtenArgument n k x) x
 back-argument v n k x = by (leb k n)
   where
     by : (b : Bool) → T (cond b (between 1 v x) (eqb zero x)) → Back (cond b (within 1 v) (give zero)) (cond b (x ∷ []) []) x
     by true h = back-within 1 v x h
     by false h = rw (sym (eqb→eq zero x h)) (back-none zero)
 
--- The arguments of a proper literal, one by one, and what is written for them
+-- The arguments of a proper literal, one by one
 pub slots : (v n x y z : ℕ) → T (allOf (between 1 v) (take n (x ∷ y ∷ z ∷ []))) → T (allOf (eqb zero) (drop n (x ∷ y ∷ z ∷ [])))
-    → T (argumentFits v n 1 x) × T (argumentFits v n 2 y) × T (argumentFits v n 3 z) × (slot n 1 x ++ (slot n 2 y ++ slot n 3 z) ≡ take n (x ∷ y ∷ z ∷ []))
+    → T (argumentFits v n 1 x) × T (argumentFits v n 2 y) × T (argumentFits v n 3 z)
 slots v zero x y z a b =
     let b′ = and-r (eqb zero x) (eqb zero y && (eqb zero z && true)) b in
-    (and-l (eqb zero x) (eqb zero y && (eqb zero z && true)) b, and-l (eqb zero y) (eqb zero z && true) b′, and-l (eqb zero z) true (and-r (eqb zero y) (eqb zero z && true) b′), refl)
+    (and-l (eqb zero x) (eqb zero y && (eqb zero z && true)) b, and-l (eqb zero y) (eqb zero z && true) b′, and-l (eqb zero z) true (and-r (eqb zero y) (eqb zero z && true) b′))
 slots v (suc zero) x y z a b =
-    (and-l (between 1 v x) true a, and-l (eqb zero y) (eqb zero z && true) b, and-l (eqb zero z) true (and-r (eqb zero y) (eqb zero z && true) b), refl)
+    (and-l (between 1 v x) true a, and-l (eqb zero y) (eqb zero z && true) b, and-l (eqb zero z) true (and-r (eqb zero y) (eqb zero z && true) b))
 slots v (suc (suc zero)) x y z a b =
-    (and-l (between 1 v x) (between 1 v y && true) a, and-l (between 1 v y) true (and-r (between 1 v x) (between 1 v y && true) a), and-l (eqb zero z) true b, refl)
+    (and-l (between 1 v x) (between 1 v y && true) a, and-l (between 1 v y) true (and-r (between 1 v x) (between 1 v y && true) a), and-l (eqb zero z) true b)
 slots v (suc (suc (suc n))) x y z a b =
-    let k₁ = le-leb 1 (suc (suc (suc n))) (omega arith) in
-    let k₂ = le-leb 2 (suc (suc (suc n))) (omega arith) in
-    let k₃ = le-leb 3 (suc (suc (suc n))) (omega arith) in
     let a₀ : T (between 1 v x && (between 1 v y && (between 1 v z && true))) = rw (take-nil n) at a in
     let a₁ = and-r (between 1 v x) (between 1 v y && (between 1 v z && true)) a₀ in (
-      rw k₁ (and-l (between 1 v x) (between 1 v y && (between 1 v z && true)) a₀),
-      rw k₂ (and-l (between 1 v y) (between 1 v z && true) a₁),
-      rw k₃ (and-l (between 1 v z) true (and-r (between 1 v y) (between 1 v z && true) a₁)),
-      rw (k₁, k₂, k₃, take-nil n),
+      rw (le-leb 1 (suc (suc (suc n))) (omega arith)) (and-l (between 1 v x) (between 1 v y && (between 1 v z && true)) a₀),
+      rw (le-leb 2 (suc (suc (suc n))) (omega arith)) (and-l (between 1 v y) (between 1 v z && true) a₁),
+      rw (le-leb 3 (suc (suc (suc n))) (omega arith)) (and-l (between 1 v z) true (and-r (between 1 v y) (between 1 v z && true) a₁)),
     )
+
+-- What is written for them, one by one, is the first n.
+pub slots-taken : (n x y z : ℕ) → writtenArgument n 1 x ++ (writtenArgument n 2 y ++ writtenArgument n 3 z) ≡ take n (x ∷ y ∷ z ∷ [])
+slots-taken zero x y z = refl
+slots-taken (suc zero) x y z = refl
+slots-taken (suc (suc zero)) x y z = refl
+slots-taken (suc (suc (suc n))) x y z =
+    rw (le-leb 1 (suc (suc (suc n))) (omega arith), le-leb 2 (suc (suc (suc n))) (omega arith), le-leb 3 (suc (suc (suc n))) (omega arith), take-nil n)
 
 back-literal : (arities : List ℕ) (v : ℕ) (l : Literal) → T (properLiteral arities v l) → Back (literal arities v) (writtenLiteral arities l) l
 unfolding literal
@@ -178,14 +175,14 @@ back-literal arities v l h =
     let h′ = and-r (between 1 (length arities) (l .predicate)) (fit && none) h in
     let k = slots v n (l .x) (l .y) (l .z) (and-l fit none h′) (and-r fit none h′) in
     let sign = by (l .positive) in
-    let whole : Back (literal arities v) (cond (l .positive) 1 0 ∷ l .predicate ∷ slot n 1 (l .x) ++ (slot n 2 (l .y) ++ slot n 3 (l .z)))
+    let whole : Back (literal arities v) (cond (l .positive) 1 0 ∷ l .predicate ∷ writtenArgument n 1 (l .x) ++ (writtenArgument n 2 (l .y) ++ writtenArgument n 3 (l .z)))
     (record { positive = eqb (cond (l .positive) 1 0) 1; predicate = l .predicate; x = l .x; y = l .y; z = l .z }) =
     back-then _ (back-within 0 1 (cond (l .positive) 1 0) (sign .0))
     (back-then _ (back-within 1 (length arities) (l .predicate) hr)
     (back-then _ (back-argument v n 1 (l .x) (k .0))
     (back-then _ (back-argument v n 2 (l .y) (k .1))
     (back-last (λ z. record { positive = eqb (cond (l .positive) 1 0) 1; predicate = l .predicate; x = l .x; y = l .y; z = z }) (back-argument v n 3 (l .z) (k .2)))))) in
-    rw (k .3, sign .1) at whole
+    rw (slots-taken n (l .x) (l .y) (l .z), sign .1) at whole
   where
     by : (b : Bool) → T (between 0 1 (cond b 1 0)) × (eqb (cond b 1 0) 1 ≡ b)
     by true = (tt, refl)
@@ -240,7 +237,7 @@ back-step (Unknown r) h = absurd h
 
 back-header : (F : File) → Sayable F
     → Back header (writtenHeader F) (record { constants = F .constants; arities = F .arities; input = F .input; count = length (F .steps) })
-unfolding header writtenHeader
+unfolding header headerWith
 back-header F h =
     let a = h .admitted in
     back-then _ (back-judged (λ b. sameList b letters or wrongMark ∷ []) (back-field letters (omega arith)) (tt, tt))

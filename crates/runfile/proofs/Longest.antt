@@ -15,7 +15,7 @@ use Rattle.calculus.specs.States.{Decide, Step}
 use Rattle.runfile.specs.Claims.{FewerDoNot, LongestFile, Outcome, Sayable, mostClauseBytes, mostFile, mostStepBytes}
 use Rattle.runfile.specs.File.{File, file, mostSteps}
 use Rattle.runfile.specs.Readers.{got}
-use Rattle.runfile.specs.Written.{joined, written, writtenClause, writtenHeader, writtenStep}
+use Rattle.runfile.specs.Written.{headerWith, joined, written, writtenClause, writtenStep}
 use Rattle.runfile.proofs.Back.{read-back}
 use Rattle.runfile.proofs.Given.{every-file}
 use Rattle.runfile.proofs.Short.{good-files-short}
@@ -79,7 +79,7 @@ length-step = refl
 -- What is written beside clauses and steps are 18 bytes.
 length-written : (cs : List Clause) (xs : List Step)
     → length (written (record { constants = 0; arities = fullArities; input = cs; steps = xs })) ≡ 18 + length (joined (writtenClause fullArities) cs) + length (joined writtenStep xs)
-unfolding writtenHeader
+unfolding headerWith
 length-written cs xs = simp length-append (omega arith)
 
 full-length : length (written fullFile) ≡ mostFile

@@ -2,6 +2,7 @@
 use mathlib.Core.List.{List, [], _∷_, _++_}
 use mathlib.Core.Bool.{cond}
 use Prim.Native.Nat.{ℕ, zero, suc, _-_, _/_, _%_}
+use lib.Dec.{leb}
 use lib.IntN.{ℤ, pos, negsuc}
 use lib.ListN.{length, take}
 use Rattle.basis.specs.declared.Atom.{Atom}
@@ -29,6 +30,10 @@ joined w (x ∷ xs) = w x ++ joined w xs
 abbrev pub writtenAtom : Atom → List ℕ
 writtenAtom a = a .p ∷ a .q ∷ bytesOf 4 (unsigned (a .c))
 
+-- The kth of n arguments; nothing past the last
+abbrev pub writtenArgument : ℕ → ℕ → ℕ → List ℕ
+writtenArgument n k x = cond (leb k n) (x ∷ []) []
+
 abbrev pub writtenLiteral : List ℕ → Literal → List ℕ
 writtenLiteral arities l = cond (l .positive) 1 0 ∷ l .predicate ∷ take (arityOf arities (l .predicate)) (arguments l)
 
@@ -49,11 +54,15 @@ writtenStep (Backtrack l) = 7 ∷ l ∷ []
 writtenStep (Grow n) = 8 ∷ n ∷ []
 writtenStep (Unknown rule) = rule ∷ []
 
--- What stands before the first step
-unfoldable pub writtenHeader : File → List ℕ
-writtenHeader F =
-    letters ++ bytesOf 2 1 ++ (F .constants ∷ length (F .arities) ∷ F .arities ++ (length (F .input) ∷
-    joined (writtenClause (F .arities)) (F .input) ++ bytesOf 2 (length (F .steps))))
+-- What stands before the first step of the file F, but with n input clauses whose bytes are w
+unfoldable pub headerWith : File → (n : ℕ) (w : List ℕ) → List ℕ
+headerWith F n w = letters ++ bytesOf 2 1 ++ (F .constants ∷ length (F .arities) ∷ F .arities ++ (n ∷ w ++ bytesOf 2 (length (F .steps))))
+
+abbrev pub writtenWith : File → (n : ℕ) (w : List ℕ) → List ℕ
+writtenWith F n w = headerWith F n w ++ joined writtenStep (F .steps)
+
+abbrev pub writtenHeader : File → List ℕ
+writtenHeader F = headerWith F (length (F .input)) (joined (writtenClause (F .arities)) (F .input))
 
 abbrev pub written : File → List ℕ
-written F = writtenHeader F ++ joined writtenStep (F .steps)
+written F = writtenWith F (length (F .input)) (joined (writtenClause (F .arities)) (F .input))

@@ -5,11 +5,11 @@ use mathlib.Core.List.{List, [], _∷_, _++_}
 use Prim.Native.Nat.{ℕ, zero, suc, _+_, _*_, _/_, _%_, _≤_, _<_}
 use native.Mathlib.Omega.{arith}
 use native.Mathlib.Numerals.{add-one}
-use native.Mathlib.Nat.{add-zero, add-suc, suc-add}
+use native.Mathlib.Nat.{add-zero, add-suc, suc-add, zero-add}
 use borrow.Author.Tests.{lt-ltb, le-ltb, ltb-true, ltb-false}
 use lib.Dec.{ltb}
-use lib.ListN.{length, take, set, getD, length-append}
-use lib.Seq.{sets, length-sets, take-suc, length-take-le}
+use lib.ListN.{length, take, drop, set, getD, length-append}
+use lib.Seq.{sets, length-sets, sets-eq, take-suc, length-take-le}
 use Rattle.text.specs.Text.{digit, decimalIn, decimal, Wrote, WroteOnce}
 
 -- ---- decimal digits
@@ -72,6 +72,9 @@ module _ {A : Type 0} where
 
 -- ---- writers
 
+pub wrote-none : (d : List ℕ) (i : ℕ) → Wrote d i [] d i
+wrote-none d i = record { next = omega arith; left = refl }
+
 -- A writer keeps the buffer's length.
 pub same-long : {d d′ w : List ℕ} {i r : ℕ} → Wrote d i w d′ r → length d′ ≡ length d
 same-long {d} {d′} {w} {i} a = ap length (a .left) ∙ length-sets d i w
@@ -86,6 +89,11 @@ and-then {d} {d₁} {d₂} {i} {r₁} {r₂} {v} {w} a b = record {
 -- The same bytes said in another way
 pub as-text : {d d′ v w : List ℕ} {i r : ℕ} → v ≡ w → Wrote d i v d′ r → Wrote d i w d′ r
 as-text e a = rw e at a
+
+-- What is written from the first byte on stands at the front, and the bytes past it stay.
+pub at-front : {d d′ w : List ℕ} {r : ℕ} → length w ≤ length d → Wrote d 0 w d′ r → (r ≡ length w) × (d′ ≡ w ++ drop r d)
+at-front {d} {d′} {w} h a =
+    let count = a .next ∙ zero-add (length w) in (count, a .left ∙ sets-eq w d 0 (omega arith) ∙ ap (λ (k : ℕ). w ++ drop k d) (zero-add (length w) ∙ sym count))
 
 pub wrote-once : WroteOnce
 wrote-once d i w d₁ d₂ r₁ r₂ a b = (a .left ∙ sym (b .left), a .next ∙ sym (b .next))

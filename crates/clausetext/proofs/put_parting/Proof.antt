@@ -1,8 +1,8 @@
 -- Nothing before the first, else the byte.
 use mathlib.Core.List.{[], _∷_}
 use borrow.Author.Needs.{needs}
-use Rattle.text.proofs.Text.{as-text}
-use Rattle.clausetext.proofs.Turns.{parting-first, parting-next, wrote-none}
+use Rattle.text.proofs.Text.{as-text, wrote-none}
+use Rattle.clausetext.proofs.Turns.{parting-first, parting-next}
 use Rattle.clausetext.proofs.put_parting.Statement.{statement}
 use Rattle.clausetext.proofs.put_parting.Tie as tie
 

@@ -1,9 +1,8 @@
 -- Nothing before a positive literal.
 use mathlib.Core.Path.{sym, ap}
 use borrow.Author.Needs.{needs}
-use Rattle.text.proofs.Text.{as-text}
+use Rattle.text.proofs.Text.{as-text, wrote-none}
 use Rattle.clausetext.specs.ClauseText.{signText}
-use Rattle.clausetext.proofs.Turns.{wrote-none}
 use Rattle.clausetext.proofs.put_sign.Statement.{statement}
 use Rattle.clausetext.proofs.put_sign.Tie as tie
 
