@@ -177,7 +177,7 @@ fn kept(constants: usize, count: usize, atoms: [Atom; MOST_TESTED]) -> bool
 }
 
 // Whether c is from -1,000,000 to 1,000,000.
-fn in_range(c: i32) -> bool
+pub fn in_range(c: i32) -> bool
     ensures { λ r. ⌜ Decides (InRange c) r ⌝ }
 {
     if c < -MOST_C {

@@ -1,2 +1,3 @@
--- Why the numbers are unique.
+-- Why the numbers are unique, and what a table's number says.
 pub mod Unique
+pub mod Codes

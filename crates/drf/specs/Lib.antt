@@ -1,2 +1,2 @@
--- Judging for programs in other languages: what the numbers say.
+-- Judging, and clauses from lookup tables, for programs in other languages: what the numbers say.
 pub mod Export

@@ -1,7 +1,12 @@
-// Judging for programs in C or Rust: slices are lent, and the answer is numbers.
+// Judging, and clauses from lookup tables, for programs in C or Rust: slices are lent, and the answer is numbers.
 ghost use mathlib.Core.Path.{_≡_};
-ghost use Rattle.drf.specs.Export.{Inspects, Judges, count, noted};
+ghost use Prim.Native.Nat.{_<_};
+ghost use Rattle.drf.specs.Export.{Inspects, Judges, Tables, count, matchOf, noted, tableCode};
 use judging::Written;
+use lookup::Match;
+use lookup::Tabled;
+
+// ---- judging
 
 fn counted(answer: Written) -> u64
     ensures { λ r. ⌜ r ≡ count answer ⌝ }
@@ -54,4 +59,34 @@ pub extern "C" fn drf_inspect(file: &[u8], out: &mut [u8], ends: &mut [u64]) -> 
     let answer = judging::inspect(file, out);
     note(answer, ends);
     counted(answer)
+}
+
+// ---- clauses from lookup tables
+
+fn match_of(approximate: u8) -> Match
+    ensures { λ r. ⌜ r ≡ matchOf approximate ⌝ }
+{
+    if approximate == 0 {
+        return Match::Exact;
+    }
+    Match::Approximate
+}
+
+fn table_code(made: Tabled) -> u32
+    requires { ⌜ tableCode made < 65536 ⌝ }
+    ensures { λ r. ⌜ r ≡ tableCode made ⌝ }
+{
+    match made {
+        Tabled::Bytes { count } => count as u32,
+        Tabled::Refused { number, place } => (number as u32) * 256 + (place as u32),
+    }
+}
+
+// The clauses of a table at the front of the buffer, and how many bytes they have; refused, 256 times the number, plus the place
+#[no_mangle]
+pub extern "C" fn drf_table(keys: &[i32], results: &[i32], approximate: u8, out: &mut [u8]) -> u32
+    ensures { λ r. ⌜ Tables (now (keys .entry)) (now (results .entry)) approximate (now (out .entry)) (now (out .exit)) r ⌝ }
+{
+    let made = lookup::clauses_from(keys, results, match_of(approximate), out);
+    table_code(made)
 }
