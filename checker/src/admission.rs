@@ -121,7 +121,7 @@ impl StepRecord {
             },
             2 => {
                 let instance = self.instance()?;
-                demand(self.sign <= 1, Refusal::of_step(4))?;
+                demand(self.sign <= 1, Refusal::at_zero(4))?;
                 let positive = self.sign == 1;
                 Step::Decide { clause: self.clause, literal: self.literal, positive, instance }
             }
@@ -131,14 +131,14 @@ impl StepRecord {
             6 => Step::Skip,
             7 => Step::Backtrack { literal: self.literal },
             8 => Step::Grow { count: self.count },
-            _ => return Err(Refusal::of_step(7)),
+            _ => return Err(Refusal::at_zero(7)),
         };
         Ok(step)
     }
 
     fn instance(&self) -> Result<Vec<u8>, Refusal> {
         let constants = self.instance.get(..self.instance_count as usize);
-        Ok(constants.ok_or(Refusal::of_step(3))?.to_vec())
+        Ok(constants.ok_or(Refusal::at_zero(3))?.to_vec())
     }
 }
 

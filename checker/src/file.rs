@@ -276,6 +276,15 @@ pub fn write(file: &RunFile) -> Written {
     written
 }
 
+/// Clauses as they stand in a file, without their number.
+pub fn clause_bytes(clauses: &[Clause], arities: &[u8]) -> Vec<u8> {
+    let mut written = Written::default();
+    for clause in clauses {
+        written.clause(clause, arities);
+    }
+    written.bytes
+}
+
 impl Written {
     fn field(&mut self, field: Field, bytes: &[u8]) {
         self.fields.push((field, self.bytes.len()));

@@ -3,9 +3,10 @@
 //!
 //! The checker: [`clause`], [`constraint`], [`merge`], [`state`], [`step`], [`rules`] are the
 //! calculus, [`file`] and [`admission`] its two ways in, [`listing`] what is printed; [`cases`] are offered
-//! by the second way, or to [`merge`] alone.
+//! by the second way, or to [`merge`] alone. [`table`] makes input clauses from a lookup table, as change
+//! request 1 has it.
 //!
-//! The tests of others: [`generate`] makes run files, [`coverage`] counts what they come to, [`smt`] puts
+//! The tests of others: [`generate`] makes run files and tables, [`coverage`] counts what they come to, [`smt`] puts
 //! questions to a solver.
 
 pub mod admission;
@@ -24,3 +25,4 @@ pub mod rules;
 pub mod smt;
 pub mod state;
 pub mod step;
+pub mod table;

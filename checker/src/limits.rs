@@ -12,6 +12,8 @@ pub const LEARNED_CLAUSES: usize = 48;
 pub const VARIABLES: usize = 12;
 pub const ATOMS: usize = 24;
 pub const LITERALS: usize = 8;
+/// "up to 48 rows of key and result" (change request 1)
+pub const ROWS: usize = 48;
 /// "c is a signed 32-bit number from −1,000,000 to 1,000,000."
 pub const C: i32 = 1_000_000;
 /// "The trail holds at most 160 entries of both kinds together."

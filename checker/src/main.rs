@@ -2,9 +2,11 @@
 
 use checker::constraint;
 use checker::coverage::Coverage;
-use checker::generate::{generate, random_set};
+use checker::file;
+use checker::generate::{generate, random_point, random_set, Point};
 use checker::listing::{run, Verdict};
 use checker::smt;
+use checker::table::{clauses_from, returned, run_file, GETS};
 use std::fs;
 use std::io::{self, Write};
 use std::path::Path;
@@ -15,6 +17,10 @@ usage: checker generate SEED COUNT DIR    writes COUNT run files to DIR, named b
        checker coverage SEED COUNT        runs COUNT files and prints what they come to
        checker sets SEED COUNT            prints for COUNT sets of atoms the test's answer, sat or unsat
        checker ask-sets SEED COUNT        prints the same sets as questions to a solver
+       checker tables SEED COUNT          prints for a point of each of COUNT lookup tables unsat where the
+                                          table returns y at x, else sat
+       checker ask-tables SEED COUNT      prints, for each of these points, a question for a model of the
+                                          table's clauses in which Gets(x, y) is not true
        checker ask-refuted SEED COUNT     prints, for each refuted run of COUNT files, a question for a
                                           model of its input clauses
        checker ask-learned SEED COUNT     prints, for each learned clause of COUNT files, a question for
@@ -24,6 +30,8 @@ SEED is the first of COUNT seeds, one after the other.";
 
 /// The solver's time for one question, in milliseconds.
 const TIME: usize = 1_000;
+/// The same for a question about a table, which has to be answered.
+const TABLE_TIME: usize = 60_000;
 
 fn main() -> ExitCode {
     let words: Vec<String> = std::env::args().skip(1).collect();
@@ -49,6 +57,8 @@ fn command(words: &[&str]) -> io::Result<ExitCode> {
         ("coverage", []) => return coverage(seeds, &mut out),
         ("sets", []) => answer_sets(seeds, &mut out)?,
         ("ask-sets", []) => ask_sets(seeds, &mut out)?,
+        ("tables", []) => answer_tables(seeds, &mut out)?,
+        ("ask-tables", []) => ask_tables(seeds, &mut out)?,
         ("ask-refuted", []) => ask_refuted(seeds, &mut out)?,
         ("ask-learned", []) => ask_learned(seeds, &mut out)?,
         _ => return Err(io::Error::other(USAGE)),
@@ -92,6 +102,30 @@ fn ask_sets(seeds: Seeds, out: &mut impl Write) -> io::Result<()> {
     for seed in seeds {
         let (constants, atoms) = random_set(seed);
         write!(out, "(reset)\n{}", smt::set_question(constants, &atoms))?;
+    }
+    Ok(())
+}
+
+fn answer_tables(seeds: Seeds, out: &mut impl Write) -> io::Result<()> {
+    for seed in seeds {
+        let Point { table, x, y } = random_point(seed);
+        let returns = returned(&table.keys, &table.results, table.kind, x) == Some(y);
+        writeln!(out, "{}", if returns { "unsat" } else { "sat" })?;
+    }
+    Ok(())
+}
+
+/// The clauses of a question are those that are read from the bytes written.
+fn ask_tables(seeds: Seeds, out: &mut impl Write) -> io::Result<()> {
+    for seed in seeds {
+        let Point { mut table, x, y } = random_point(seed);
+        let count = clauses_from(&table.keys, &table.results, table.kind, &mut table.out);
+        let count = count.expect("a table in order, and room");
+        let file = file::read(&run_file(table.keys.len() as u8, &table.out[..count]));
+        let file = file.expect("a table's clauses in a file");
+        let theory = smt::theory(&file.arities, &file.clauses);
+        let denial = smt::not_true(GETS, &[x, y]);
+        write!(out, "(reset)\n(set-option :timeout {TABLE_TIME})\n{theory}{denial}(check-sat)\n")?;
     }
     Ok(())
 }

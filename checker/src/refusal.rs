@@ -12,8 +12,10 @@ impl Refusal {
         Refusal { number, place }
     }
 
-    /// "every other answer to a step has place 0"
-    pub fn of_step(number: u8) -> Refusal {
+    /// With place 0: "every other answer to a step has place 0", and of a lookup table, whose refusals are
+    /// "19 more than 48 rows; 20 keys not strictly rising, or a key or result outside ±1,000,000; 21 buffer
+    /// too short; in that order", no other place is named.
+    pub fn at_zero(number: u8) -> Refusal {
         Refusal { number, place: 0 }
     }
 }

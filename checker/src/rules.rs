@@ -99,15 +99,15 @@ impl State {
         let held = self.demand_clause(clause, instance)?;
         let own = demand_literal(held, literal)?.at(instance);
         // "L's instance is undefined"
-        demand(self.is_undefined(&own), Refusal::of_step(11))?;
+        demand(self.is_undefined(&own), Refusal::at_zero(11))?;
         // "every literal with another instance is false"
         self.demand_false(held, instance, Some(&own))?;
         // "trail atoms and the clause's atoms together are possible"
         let atoms = held.ground_atoms(instance);
-        demand(self.possible_with(self.trail.len(), &atoms), Refusal::of_step(13))?;
+        demand(self.possible_with(self.trail.len(), &atoms), Refusal::at_zero(13))?;
         let origin = Origin { decision: false, clause, literal, instance: instance.to_vec() };
         let entries = self.propagated(self.trail.len(), own, origin, &atoms);
-        demand(self.trail.len() + entries.len() <= limits::TRAIL, Refusal::of_step(18))?;
+        demand(self.trail.len() + entries.len() <= limits::TRAIL, Refusal::at_zero(18))?;
         Ok(Change::Propagated(entries))
     }
 
@@ -124,8 +124,8 @@ impl State {
         let own = demand_literal(held, literal)?.at(instance);
         // "The atom of the literal, with the sign given, is undefined."
         let decided = Literal { positive, ..own };
-        demand(self.is_undefined(&decided), Refusal::of_step(11))?;
-        demand(self.trail.len() < limits::TRAIL, Refusal::of_step(18))?;
+        demand(self.is_undefined(&decided), Refusal::at_zero(11))?;
+        demand(self.trail.len() < limits::TRAIL, Refusal::at_zero(18))?;
         let origin = Origin { decision: true, clause, literal, instance: instance.to_vec() };
         Ok(Change::Decided(Entry::Foreground(decided, origin)))
     }
@@ -138,7 +138,7 @@ impl State {
         self.demand_false(held, instance, None)?;
         // "trail and clause atoms together possible"
         let atoms = held.ground_atoms(instance);
-        demand(self.possible_with(self.trail.len(), &atoms), Refusal::of_step(13))?;
+        demand(self.possible_with(self.trail.len(), &atoms), Refusal::at_zero(13))?;
         // "The clause becomes the conflict.", "the Conflict rule itself merges nothing"
         Ok(Change::Conflict(Closure { clause: held.clone(), instance: instance.to_vec() }))
     }
@@ -147,7 +147,7 @@ impl State {
     fn resolve(&self, literal: u8) -> Result<Change, Refusal> {
         let resolvent = self.resolvent(literal)?;
         // "clause limits counted after merging"
-        demand(resolvent.clause.within_limits(), Refusal::of_step(18))?;
+        demand(resolvent.clause.within_limits(), Refusal::at_zero(18))?;
         Ok(Change::Conflict(resolvent))
     }
 
@@ -158,10 +158,10 @@ impl State {
         // "The last entry is a propagated literal, the complement of L'."
         let (last, origin) = match self.trail.last() {
             Some(Entry::Foreground(last, origin)) if !origin.decision => (last, origin),
-            _ => return Err(Refusal::of_step(14)),
+            _ => return Err(Refusal::at_zero(14)),
         };
         let complement = own.at(&conflict.instance).complement();
-        demand(*last == complement, Refusal::of_step(15))?;
+        demand(*last == complement, Refusal::at_zero(15))?;
         let (reason, reason_own) = self.reason(origin);
         Ok(resolvent(conflict, literal, &reason, reason_own))
     }
@@ -171,20 +171,20 @@ impl State {
         let conflict = self.demand_conflict()?;
         let one = demand_literal(&conflict.clause, first)?;
         let other = demand_literal(&conflict.clause, second)?;
-        demand(first != second, Refusal::of_step(10))?;
+        demand(first != second, Refusal::at_zero(10))?;
         let same = one.at(&conflict.instance) == other.at(&conflict.instance);
-        demand(same, Refusal::of_step(15))?;
+        demand(same, Refusal::at_zero(15))?;
         Ok(Change::Conflict(factor(conflict, first, second)))
     }
 
     /// "**6 Skip**."
     fn skip(&self) -> Result<Change, Refusal> {
         let conflict = self.demand_conflict()?;
-        let last = self.trail.last().ok_or(Refusal::of_step(14))?;
+        let last = self.trail.last().ok_or(Refusal::at_zero(14))?;
         // "The last entry goes, if it is an atom or if its complement is not in the conflict."
         if let Some(literal) = last.literal() {
             let in_conflict = conflict.ground_literals().contains(&literal.complement());
-            demand(!in_conflict, Refusal::of_step(15))?;
+            demand(!in_conflict, Refusal::at_zero(15))?;
         }
         Ok(Change::Skipped)
     }
@@ -195,16 +195,16 @@ impl State {
         let own = demand_literal(&conflict.clause, literal)?.at(&conflict.instance);
         let others = without(&conflict.ground_literals(), literal);
         // "L's instance is not in D"
-        demand(!others.contains(&own), Refusal::of_step(15))?;
+        demand(!others.contains(&own), Refusal::at_zero(15))?;
         // "i is the largest level in D, 0 if D is empty; L's level is above i"
         let level_of = |literal| self.level_of(literal).expect("a conflict's literals are false");
         let level = others.iter().map(level_of).max().unwrap_or(0);
-        demand(level_of(&own) > level, Refusal::of_step(16))?;
+        demand(level_of(&own) > level, Refusal::at_zero(16))?;
         // "The trail is cut just before decision i + 1."
         let kept = self.length_before_decision(level + 1);
         // "Kept atoms and conflict atoms together are possible."
         let atoms = conflict.ground_atoms();
-        demand(self.possible_with(kept, &atoms), Refusal::of_step(17))?;
+        demand(self.possible_with(kept, &atoms), Refusal::at_zero(17))?;
         // "The conflict is learned; L and its new atoms are appended as Propagate would append them
         // from the learned clause; k is i, no conflict."
         let clause = (self.clauses() + 1) as u8;
@@ -213,35 +213,35 @@ impl State {
         let entries = self.propagated(kept, own, origin, &atoms);
         let room =
             kept + entries.len() <= limits::TRAIL && self.learned.len() < limits::LEARNED_CLAUSES;
-        demand(room, Refusal::of_step(18))?;
+        demand(room, Refusal::at_zero(18))?;
         Ok(Change::Learned { kept, entries, level })
     }
 
     /// "**8 Grow** (count)."
     fn grow(&self, count: u8) -> Result<Change, Refusal> {
         self.demand_no_conflict()?;
-        demand(count > 0, Refusal::of_step(10))?;
+        demand(count > 0, Refusal::at_zero(10))?;
         let room = self.constants + count as usize <= limits::CONSTANTS;
-        demand(room, Refusal::of_step(18))?;
+        demand(room, Refusal::at_zero(18))?;
         Ok(Change::Grown(count.into()))
     }
 
     /// 9: "conflict standing for 1, 2, 3, 8"
     fn demand_no_conflict(&self) -> Result<(), Refusal> {
-        demand(self.conflict.is_none(), Refusal::of_step(9))
+        demand(self.conflict.is_none(), Refusal::at_zero(9))
     }
 
     /// 9: "none for 4 to 7"
     fn demand_conflict(&self) -> Result<&Closure, Refusal> {
-        self.conflict.as_ref().ok_or(Refusal::of_step(9))
+        self.conflict.as_ref().ok_or(Refusal::at_zero(9))
     }
 
     /// 10: "no such clause [..] or constant; wrong instance count"
     fn demand_clause(&self, number: u8, instance: &[u8]) -> Result<&Clause, Refusal> {
-        let clause = self.clause(number).ok_or(Refusal::of_step(10))?;
+        let clause = self.clause(number).ok_or(Refusal::at_zero(10))?;
         let right_count = instance.len() == clause.variables as usize;
         let is_constant = |&constant: &u8| (1..=self.constants).contains(&(constant as usize));
-        demand(right_count && instance.iter().all(is_constant), Refusal::of_step(10))?;
+        demand(right_count && instance.iter().all(is_constant), Refusal::at_zero(10))?;
         Ok(clause)
     }
 
@@ -284,8 +284,8 @@ impl State {
 
 /// 10: "no such [..] literal"
 fn demand_literal(clause: &Clause, number: u8) -> Result<&Literal, Refusal> {
-    let index = (number as usize).checked_sub(1).ok_or(Refusal::of_step(10))?;
-    clause.literals.get(index).ok_or(Refusal::of_step(10))
+    let index = (number as usize).checked_sub(1).ok_or(Refusal::at_zero(10))?;
+    clause.literals.get(index).ok_or(Refusal::at_zero(10))
 }
 
 /// The literals without the one of that number.

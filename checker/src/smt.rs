@@ -41,6 +41,12 @@ pub fn denial(clause: &Clause) -> String {
     text
 }
 
+/// Says that a predicate is not true of these numbers.
+pub fn not_true(predicate: u8, arguments: &[i32]) -> String {
+    let arguments: Vec<String> = arguments.iter().map(|&number| numeral(number)).collect();
+    format!("(assert (not (P{predicate} {})))\n", arguments.join(" "))
+}
+
 fn line(text: &mut String, words: std::fmt::Arguments) {
     writeln!(text, "{words}").expect("a string takes all that is written");
 }
@@ -69,13 +75,17 @@ fn place(number: u8, name: &str) -> String {
     }
 }
 
+fn numeral(number: i32) -> String {
+    match number {
+        0.. => number.to_string(),
+        _ => format!("(- {})", number.unsigned_abs()),
+    }
+}
+
 /// "An atom (p, q, c) means p − q ≤ c."
 fn atom_term(atom: &Atom, name: &str) -> String {
-    let c = match atom.c {
-        0.. => atom.c.to_string(),
-        _ => format!("(- {})", atom.c.unsigned_abs()),
-    };
-    format!("(<= (- {} {}) {c})", place(atom.p, name), place(atom.q, name))
+    let (p, q) = (place(atom.p, name), place(atom.q, name));
+    format!("(<= (- {p} {q}) {})", numeral(atom.c))
 }
 
 fn literal_term(literal: &Literal, name: &str) -> String {

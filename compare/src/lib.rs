@@ -3,4 +3,5 @@
 pub mod beside;
 pub mod mutate;
 pub mod steps;
+pub mod tables;
 pub mod watch;

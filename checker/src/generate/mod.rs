@@ -4,17 +4,21 @@
 //! [`kinds`] differ in what they reach: many conflicts on few constants, bounds that lie close, wide
 //! clauses, full trails, many learned clauses, long runs, the longest file. One file of five is damaged
 //! ([`damage`]).
+//!
+//! Beside files there are sets of atoms ([`sets`]) and lookup tables ([`tables`]).
 
 mod damage;
 mod kinds;
 mod player;
 mod problem;
 mod sets;
+mod tables;
 
 use crate::file::write;
 use crate::random::Random;
 pub use kinds::onward;
 pub use sets::random_set;
+pub use tables::{random_point, random_table, Point, Table};
 
 /// The run file of that seed.
 pub fn generate(seed: u64) -> Vec<u8> {
