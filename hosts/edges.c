@@ -1,12 +1,15 @@
 /* usage: edges FILE
  * The ends of what include/drf.h says, tried on a good run file: buffers one byte short and exactly long enough, ends of every length, null
  * pointers with length 0, and that no other byte is written. Buffers are on the heap and exactly so long, so that valgrind sees a step
- * beyond them. Status 1 where something differs, and standard error names it. */
+ * beyond them. Of tables the same, with what is lent at the end of a page behind which nothing can be touched. Status 1 where something
+ * differs, and standard error names it. */
 #define _DEFAULT_SOURCE
 #include <pthread.h>
 #include <stdio.h>
 #include <stdlib.h>
 #include <string.h>
+#include <sys/mman.h>
+#include <unistd.h>
 
 #include "lent.h"
 
@@ -28,12 +31,17 @@ static const struct tried both[] = {
 
 static int faults = 0;
 
-static void hold(int holds, const struct tried *tried, const char *what)
+static void hold_of(int holds, const char *name, const char *what)
 {
     if (holds)
         return;
-    fprintf(stderr, "edges: %s: not so: %s\n", tried->name, what);
+    fprintf(stderr, "edges: %s: not so: %s\n", name, what);
     faults++;
+}
+
+static void hold(int holds, const struct tried *tried, const char *what)
+{
+    hold_of(holds, tried->name, what);
 }
 
 static void *blank(size_t size)
@@ -105,6 +113,106 @@ static void nulls(const struct tried *tried, const uint8_t *file, size_t count)
     free(same);
 }
 
+/* ---- tables */
+
+static void hold_table(int holds, const char *what)
+{
+    hold_of(holds, "drf_table", what);
+}
+
+/* So many bytes up to the end of a page. The page behind it can't be touched: a step beyond the bytes ends the program by a signal. They are
+ * never given back. */
+static void *at_page_end(size_t size)
+{
+    size_t page = (size_t)sysconf(_SC_PAGESIZE);
+    uint8_t *at = (uint8_t *)mmap(NULL, 2 * page, PROT_READ | PROT_WRITE, MAP_PRIVATE | MAP_ANONYMOUS, -1, 0);
+    if (at == MAP_FAILED || mprotect(at + page, page, PROT_NONE) != 0) {
+        fprintf(stderr, "edges: no memory\n");
+        exit(2);
+    }
+    memset(at, BLANK, page);
+    return at + page - size;
+}
+
+/* Rising numbers from the first on, so many */
+static int32_t *rising(int32_t first, size_t count)
+{
+    int32_t *numbers = (int32_t *)at_page_end(count * sizeof *numbers);
+    for (size_t k = 0; k < count; k++)
+        numbers[k] = first + (int32_t)k;
+    return numbers;
+}
+
+/* Whether a table is refused by this number, at place 0, and the buffer, which is blank, stays */
+static int refused(uint8_t number, const int32_t *keys, size_t keys_len, const int32_t *results, size_t results_len, uint8_t *out,
+                   size_t out_len)
+{
+    for (uint8_t kind = 0; kind < 2; kind++) {
+        uint32_t answer = drf_table(keys, keys_len, results, results_len, kind, out, out_len);
+        struct drf_made made = drf_made_of(answer);
+        if (answer != 256u * number || made.count != 0 || made.number != number || made.place != 0 || !is_blank(out, out_len))
+            return 0;
+    }
+    return 1;
+}
+
+/* A full table fills its buffer to the last byte, and one byte less is refused. One row less leaves the bytes past it, and one more is refused. */
+static void table_lengths(uint8_t kind)
+{
+    size_t rows = DRF_MOST_ROWS, most = DRF_MOST_TABLE - (kind ? 6 : 0);
+    int32_t *keys = rising(-DRF_MOST_C, rows + 1);
+    int32_t *results = rising(DRF_MOST_C - DRF_MOST_ROWS, rows + 1);
+    uint8_t *out = (uint8_t *)at_page_end(most);
+    hold_table(refused(DRF_TOO_MANY_ROWS, keys, rows + 1, results, rows + 1, out, most), "one row too many is refused");
+    uint32_t count = drf_table(keys, rows - 1, results, rows, kind, out, most);
+    hold_table(count == most - 31 && is_blank(out + count, most - count), "the bytes past the clauses stay");
+    hold_table(drf_table(keys + 1, rows, results + 1, rows, kind, out, most) == most && out[most - 1] == 2, "a full table fills its buffer");
+    out = (uint8_t *)at_page_end(most - 1);
+    count = drf_table(keys, rows, results, rows, kind, out, most - 1);
+    hold_table(count == 256 * DRF_BUFFER_SHORT && is_blank(out, most - 1), "a buffer one byte short is refused and stays");
+}
+
+/* Any number but 0 is approximate match. */
+static void table_kinds(void)
+{
+    static const int32_t rows[] = {4100, 4120, 4200};
+    uint8_t one[DRF_MOST_TABLE], other[DRF_MOST_TABLE];
+    struct drf_made made = drf_tabled(rows, 3, rows, 3, DRF_EXACT, one, sizeof one);
+    hold_table(made.count == 93 && made.number == DRF_ACCEPTED && made.place == 0, "exact match bounds every row");
+    made = drf_tabled(rows, 3, rows, 3, DRF_APPROXIMATE, one, sizeof one);
+    hold_table(made.count == 87 && made.number == DRF_ACCEPTED && made.place == 0, "the last row of approximate match has no upper end");
+    for (int kind = 1; kind < 256; kind++) {
+        uint32_t count = drf_table(rows, 3, rows, 3, (uint8_t)kind, other, sizeof other);
+        hold_table(count == made.count && memcmp(one, other, count) == 0, "any number but 0 is approximate match");
+    }
+}
+
+/* What is not in order is refused, also beside a buffer that is short. */
+static void table_order(void)
+{
+    static const int32_t beyond[] = {DRF_MOST_C + 1, -DRF_MOST_C - 1, INT32_MAX, INT32_MIN};
+    static const int32_t equal[] = {4100, 4100};
+    uint8_t *out = (uint8_t *)at_page_end(DRF_MOST_TABLE);
+    for (size_t k = 0; k < sizeof beyond / sizeof *beyond; k++) {
+        hold_table(refused(DRF_NOT_IN_ORDER, &beyond[k], 1, equal, 1, out, DRF_MOST_TABLE), "a key beyond its range is refused");
+        hold_table(refused(DRF_NOT_IN_ORDER, equal, 1, &beyond[k], 1, out, DRF_MOST_TABLE), "a result beyond its range is refused");
+    }
+    hold_table(refused(DRF_NOT_IN_ORDER, equal, 2, equal, 2, out, DRF_MOST_TABLE), "equal keys are refused");
+    hold_table(refused(DRF_NOT_IN_ORDER, equal, 2, equal, 2, out, 0), "the keys are looked at before the buffer");
+    hold_table(refused(DRF_NOT_IN_ORDER, rising(1, 2), 2, rising(1, 1), 1, out, DRF_MOST_TABLE), "a key without a result is refused");
+}
+
+/* A null pointer with length 0 is an empty slice. */
+static void table_nulls(void)
+{
+    uint8_t *out = (uint8_t *)at_page_end(1);
+    int32_t *one = rising(1, 1);
+    hold_table(drf_table(NULL, 0, NULL, 0, 0, NULL, 0) == 0, "all null, of length 0, is an empty table");
+    hold_table(drf_table(NULL, 0, one, 1, 1, out, 1) == 0 && is_blank(out, 1), "null keys of length 0 are an empty table");
+    hold_table(refused(DRF_NOT_IN_ORDER, one, 1, NULL, 0, out, 1), "null results of length 0 are none");
+    hold_table(refused(DRF_BUFFER_SHORT, one, 1, one, 1, NULL, 0), "a null buffer of length 0 is a short one");
+}
+
 int main(int count, char **words)
 {
     static struct file read;
@@ -122,6 +230,11 @@ int main(int count, char **words)
         nulls(&both[k], file, read.count);
     }
     hold(memcmp(file, read.bytes, read.count) == 0, &both[0], "the file stays");
+    table_lengths(DRF_EXACT);
+    table_lengths(DRF_APPROXIMATE);
+    table_kinds();
+    table_order();
+    table_nulls();
     free(file);
     return faults ? 1 : 0;
 }

@@ -1,6 +1,7 @@
 /* usage: host FILE..
- * A host in C, and C++: judges and inspects each run file on several threads at once, each with a stack of DRF_STACK bytes, and prints what
- * one of them was told. Status 0; 1 where a file can't be read or the threads are told different things; 2 for no file. */
+ * A host in C, and C++: judges and inspects each run file, and then makes the clauses of small tables, on several threads at once, each with a
+ * stack of DRF_STACK bytes, and prints what one of them was told. Status 0; 1 where a file can't be read or the threads are told different
+ * things; 2 for no file. */
 #define _DEFAULT_SOURCE
 #include <pthread.h>
 #include <stdio.h>
@@ -10,14 +11,31 @@
 #include "lent.h"
 
 #define THREADS 4
+#define ROWS 3
+#define TABLES 3
+
+/* A table by its keys, each of which is its own result, and the kind of match */
+struct table {
+    const char *name;
+    int32_t keys[ROWS];
+    enum drf_match kind;
+};
+
+static const struct table tables[TABLES] = {
+    {"exact", {4100, 4120, 4200}, DRF_EXACT},
+    {"approximate", {4100, 4120, 4200}, DRF_APPROXIMATE},
+    {"not in order", {4120, 4100, 4200}, DRF_APPROXIMATE},
+};
 
 /* What a thread reads, writes to and is told */
 struct work {
     const struct file *file;
     uint8_t listing[DRF_MOST_LISTING];
     uint8_t inspection[DRF_MOST_INSPECTION];
+    uint8_t clauses[TABLES][DRF_MOST_TABLE];
     struct drf_told judged;
     struct drf_told inspected;
+    struct drf_made made[TABLES];
 };
 
 static void *work_on(void *given)
@@ -29,12 +47,22 @@ static void *work_on(void *given)
     return NULL;
 }
 
+static void *make_on(void *given)
+{
+    struct work *work = (struct work *)given;
+    for (int k = 0; k < TABLES; k++) {
+        const int32_t *keys = tables[k].keys;
+        work->made[k] = drf_tabled(keys, ROWS, keys, ROWS, tables[k].kind, work->clauses[k], sizeof work->clauses[k]);
+    }
+    return NULL;
+}
+
 /* Runs all works at once. A host that can have no thread ends. */
-static void run(struct work *works, const struct stack *stacks)
+static void run(void *(*on)(void *), struct work *works, const struct stack *stacks)
 {
     pthread_t threads[THREADS];
     for (int k = 0; k < THREADS; k++) {
-        int fault = start_on(stacks[k], &threads[k], work_on, &works[k]);
+        int fault = start_on(stacks[k], &threads[k], on, &works[k]);
         if (fault) {
             fprintf(stderr, "host: no thread: %s\n", strerror(fault));
             exit(1);
@@ -75,7 +103,7 @@ static int tell(const char *name, struct work *works, const struct stack *stacks
         return 0;
     for (int k = 0; k < THREADS; k++)
         works[k].file = &file;
-    run(works, stacks);
+    run(work_on, works, stacks);
     if (!agree(works)) {
         fprintf(stderr, "%s: the threads are told different things\n", name);
         return 0;
@@ -83,6 +111,48 @@ static int tell(const char *name, struct work *works, const struct stack *stacks
     printf("%s\n", name);
     print("judge", works[0].judged, works[0].listing);
     print("inspect", works[0].inspected, works[0].inspection);
+    return 1;
+}
+
+/* Whether all threads were told the same of a table */
+static int agree_on_table(const struct work *works, int table)
+{
+    struct drf_made first = works[0].made[table];
+    for (int k = 1; k < THREADS; k++) {
+        struct drf_made made = works[k].made[table];
+        if (made.count != first.count || made.number != first.number || made.place != first.place)
+            return 0;
+        if (memcmp(works[k].clauses[table], works[0].clauses[table], first.count) != 0)
+            return 0;
+    }
+    return 1;
+}
+
+/* The bytes of clauses, a clause a line: three counts, of which the second is that of its atoms, six bytes for each of these, and four for the
+ * literal. */
+static void print_clauses(const uint8_t *clauses, size_t count)
+{
+    size_t end = 0;
+    for (size_t k = 0; k < count; k++) {
+        if (k == end)
+            end += 3 + 6 * (size_t)clauses[k + 1] + 4;
+        printf("%02x%c", clauses[k], k + 1 == end ? '\n' : ' ');
+    }
+}
+
+/* Whether all threads were told the same of each table */
+static int tell_tables(struct work *works, const struct stack *stacks)
+{
+    run(make_on, works, stacks);
+    for (int k = 0; k < TABLES; k++) {
+        struct drf_made made = works[0].made[k];
+        if (!agree_on_table(works, k)) {
+            fprintf(stderr, "table, %s: the threads are told different things\n", tables[k].name);
+            return 0;
+        }
+        printf("table, %s: %d bytes, number %d, place %d\n", tables[k].name, (int)made.count, made.number, made.place);
+        print_clauses(works[0].clauses[k], made.count);
+    }
     return 1;
 }
 
@@ -105,6 +175,8 @@ int main(int count, char **words)
     for (int k = 1; k < count; k++)
         if (!tell(words[k], works, stacks))
             status = 1;
+    if (!tell_tables(works, stacks))
+        status = 1;
     for (int k = 0; k < THREADS; k++)
         free_stack(stacks[k]);
     if (fflush(stdout) != 0 || ferror(stdout)) {

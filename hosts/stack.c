@@ -1,6 +1,6 @@
 /* usage: stack FILE..
- * Measures the stack of a thread that judges or inspects each file: a stack is painted, and the lowest byte that a thread changed says how
- * far it went. Status 1 where less than SPARE of DRF_STACK is left. */
+ * Measures the stack of a thread that judges or inspects each file, and of one that makes the clauses of a full table: a stack is painted, and
+ * the lowest byte that a thread changed says how far it went. Status 1 where less than SPARE of DRF_STACK is left. */
 #define _DEFAULT_SOURCE
 #include <pthread.h>
 #include <stdio.h>
@@ -37,6 +37,17 @@ static void *work_on(void *given)
         drf_inspect(work->file.bytes, work->file.count, work->out, sizeof work->out, ends, 2);
     else
         drf_judge(work->file.bytes, work->file.count, work->out, sizeof work->out, ends, 2);
+    return given;
+}
+
+/* The clauses of a table of as many rows as it may have, by approximate match. */
+static void *make_table(void *given)
+{
+    struct work *work = (struct work *)given;
+    static int32_t rows[DRF_MOST_ROWS];
+    for (int k = 0; k < DRF_MOST_ROWS; k++)
+        rows[k] = k;
+    drf_table(rows, DRF_MOST_ROWS, rows, DRF_MOST_ROWS, DRF_APPROXIMATE, work->out, sizeof work->out);
     return given;
 }
 
@@ -160,11 +171,14 @@ int main(int count, char **words)
     size_t empty = deepest(stack, no_work, NULL);
     if (!measure(words + 1, count - 1, stack, &deep, seen))
         return 2;
+    size_t table = deepest(stack, make_table, &deep);
     printf("stack: %zu bytes of a thread that does nothing\n", empty);
     printf("stack: %zu to %zu bytes of one that judges, over %d files\n", seen[0].least, seen[0].most, count - 1);
     printf("stack: %zu to %zu bytes of one that inspects\n", seen[1].least, seen[1].most);
+    printf("stack: %zu bytes of one that makes the clauses of a table\n", table);
     print_least(&deep);
     size_t most = seen[0].most < seen[1].most ? seen[1].most : seen[0].most;
+    most = most < table ? table : most;
     printf("stack: %d bytes are stated, and %ld of them to spare\n", DRF_STACK, (long)DRF_STACK - (long)most);
     return most + SPARE <= DRF_STACK ? 0 : 1;
 }

@@ -1,4 +1,5 @@
-/* The proved judge of run files, for C99 and C++. docs/INTEGRATION.md says how it is built and linked, and what is proved of it.
+/* The proved judge of run files, and clauses from a lookup table, for C99 and C++. docs/INTEGRATION.md says how it is built and linked, and
+ * what is proved of it.
  *
  * drf_judge writes the listing of a file, drf_inspect the listing and after it the final state. What holds of both, whatever the file's
  * bytes are:
@@ -10,14 +11,28 @@
  *   short the text would be. Then nothing is written, to ends neither.
  * - Else, if ends_len is 2 or more, ends[0] is the number and ends[1] the place that judging ended with, and the other slots stay. If it is
  *   0 or 1, ends stays.
- * - Nothing else is written, and nothing is kept: no allocation, no global state, no lock, no call of the system. So both may be called
- *   from any thread, and from many at once; these may share a file.
+ *
+ * drf_table writes the input clauses of a lookup table, as a run file has them and without their number. What holds of it, whatever the
+ * numbers are:
+ *
+ * - There are keys_len rows: each key with the result at its place. Read are keys and results; they stay as they are. A key that has no
+ *   result is refused by 20, and results past the keys are not looked at.
+ * - approximate 0 is exact match, any other number approximate match.
+ * - If the table is accepted, the clauses are written from out on, and the number of their bytes is answered, DRF_MOST_TABLE at most; 0 for
+ *   no rows. The bytes of the buffer past them stay as they were.
+ * - If it is refused, 256 times the refusal's number plus its place, which is 0, is answered, and the buffer stays as it was:
+ *   DRF_TOO_MANY_ROWS, DRF_NOT_IN_ORDER or DRF_BUFFER_SHORT, the first of them that is so. A buffer is short exactly if the clauses do not
+ *   fit.
+ *
+ * What holds of all three: nothing else is written, and nothing is kept: no allocation, no global state, no lock, no call of the system. So
+ * they may be called from any thread, and from many at once; these may share what is read.
  *
  * What they count on:
  *
  * - Each pointer is that of as many elements as the length beside it says; a length is of elements, so that of ends counts slots of 8 bytes.
  *   A null pointer goes with length 0 alone (docs/INTEGRATION.md, "Null").
- * - File, buffer and ends do not overlap, and nothing else writes to them, or reads buffer or ends, before the call returns.
+ * - What is written to, buffer and ends, overlaps nothing else that is lent, and nothing else writes to what is lent, or reads buffer or
+ *   ends, before the call returns.
  * - The thread has DRF_STACK bytes of stack.
  */
 #ifndef DRF_H
@@ -39,11 +54,22 @@ extern "C" {
 /* A buffer of so many bytes has room for every listing with its final state. */
 #define DRF_MOST_INSPECTION 136078
 
-/* The stack of a thread that calls, in bytes; file and buffers are not in it. */
+/* "Make the input clauses from up to 48 rows of key and result." */
+#define DRF_MOST_ROWS 48
+
+/* The largest key and the largest result of a table; the least is as far below 0. It is the largest c of an atom. */
+#define DRF_MOST_C 1000000
+
+/* A buffer of so many bytes has room for the clauses of every table. */
+#define DRF_MOST_TABLE 1488
+
+/* The stack of a thread that calls, in bytes; what is lent is not in it. */
 #define DRF_STACK 131072
 
 uint64_t drf_judge(const uint8_t *file, size_t file_len, uint8_t *out, size_t out_len, uint64_t *ends, size_t ends_len);
 uint64_t drf_inspect(const uint8_t *file, size_t file_len, uint8_t *out, size_t out_len, uint64_t *ends, size_t ends_len);
+uint32_t drf_table(const int32_t *keys, size_t keys_len, const int32_t *results, size_t results_len, uint8_t approximate, uint8_t *out,
+                   size_t out_len);
 
 /* The refusal numbers. docs/REFUSALS.md says when each is given. */
 enum drf_refusal {
@@ -65,7 +91,10 @@ enum drf_refusal {
     DRF_WRONG_LITERAL = 15,
     DRF_NOT_ABOVE = 16,
     DRF_KEPT_NOT_POSSIBLE = 17,
-    DRF_NO_ROOM = 18
+    DRF_NO_ROOM = 18,
+    DRF_TOO_MANY_ROWS = 19,
+    DRF_NOT_IN_ORDER = 20,
+    DRF_BUFFER_SHORT = 21
 };
 
 /* The last line of a listing. */
@@ -152,6 +181,39 @@ static inline struct drf_told drf_inspected(const uint8_t *file, size_t file_len
     uint64_t ends[2] = {0, 0};
     uint64_t count = drf_inspect(file, file_len, out, out_len, ends, 2);
     return drf_told_of(count, out, ends);
+}
+
+/* The kind of match by which a row of a table is found at x. */
+enum drf_match {
+    DRF_EXACT = 0,      /* the row of the equal key */
+    DRF_APPROXIMATE = 1 /* the row of the largest key not above x */
+};
+
+/* What is made of a table. */
+struct drf_made {
+    size_t count;   /* of the bytes of clauses at the buffer's front; 0 for no rows, and where the table is refused */
+    uint8_t number; /* of the refusal; DRF_ACCEPTED where the clauses are written */
+    uint8_t place;  /* of the refusal: 0 */
+};
+
+/* The answer of drf_table. No table has more than DRF_MOST_TABLE bytes, and the least refusal is 19 times 256. */
+static inline struct drf_made drf_made_of(uint32_t answer)
+{
+    struct drf_made made = {0, DRF_ACCEPTED, 0};
+    if (answer <= DRF_MOST_TABLE) {
+        made.count = answer;
+    } else {
+        made.number = (uint8_t)(answer / 256);
+        made.place = (uint8_t)(answer % 256);
+    }
+    return made;
+}
+
+/* drf_table with a typed result */
+static inline struct drf_made drf_tabled(const int32_t *keys, size_t keys_len, const int32_t *results, size_t results_len,
+                                         enum drf_match kind, uint8_t *out, size_t out_len)
+{
+    return drf_made_of(drf_table(keys, keys_len, results, results_len, kind != DRF_EXACT, out, out_len));
 }
 
 #ifdef __cplusplus

@@ -1,8 +1,10 @@
 //! usage: host FILE..
-//! A host in Rust: judges and inspects each run file on several threads at once, each with a stack of `drf::STACK` bytes, and prints what one
-//! of them was told. Status 0; 1 where a file can't be read or the threads are told different things; 2 for no file.
+//! A host in Rust: judges and inspects each run file, and then makes the clauses of small tables, on several threads at once, each with a
+//! stack of `drf::STACK` bytes, and prints what one of them was told. Status 0; 1 where a file can't be read or the threads are told different
+//! things; 2 for no file.
 
-use drf::{inspect, judge, Told, Verdict, MOST_INSPECTION, MOST_READ, STACK};
+use drf::{inspect, judge, refusal, table, Match, Refused, Told, Verdict};
+use drf::{MOST_INSPECTION, MOST_READ, MOST_TABLE, STACK};
 use std::env;
 use std::ffi::OsString;
 use std::fs::File;
@@ -10,7 +12,7 @@ use std::io::{self, Read, Write};
 use std::path::Path;
 use std::process::ExitCode;
 use std::sync::Arc;
-use std::thread::{Builder, JoinHandle};
+use std::thread::Builder;
 
 const THREADS: usize = 4;
 
@@ -46,24 +48,48 @@ fn both(file: &[u8]) -> Result<Both, drf::Short> {
     Ok([listing, inspection])
 }
 
-fn start(file: Arc<Vec<u8>>) -> io::Result<JoinHandle<Result<Both, drf::Short>>> {
-    Builder::new().stack_size(STACK).spawn(move || both(&file))
+/// A table by its keys, each of which is its own result, and the kind of match
+struct Table {
+    name: &'static str,
+    keys: [i32; 3],
+    kind: Match,
 }
 
-/// What all threads are told of a file
-fn told(file: Vec<u8>) -> io::Result<Both> {
-    let file = Arc::new(file);
-    let threads: Vec<_> = (0..THREADS).map(|_| start(file.clone())).collect::<io::Result<_>>()?;
-    let mut first: Option<Both> = None;
+const TABLES: [Table; 3] = [
+    Table { name: "exact", keys: [4100, 4120, 4200], kind: Match::Exact },
+    Table { name: "approximate", keys: [4100, 4120, 4200], kind: Match::Approximate },
+    Table { name: "not in order", keys: [4120, 4100, 4200], kind: Match::Approximate },
+];
+
+/// What is made of each table
+fn made() -> [Result<Vec<u8>, Refused>; 3] {
+    TABLES.map(|Table { keys, kind, .. }| {
+        let mut out = [0; MOST_TABLE];
+        table(&keys, &keys, kind, &mut out).map(<[u8]>::to_vec)
+    })
+}
+
+/// What all threads are told at this work
+fn on_all<T: PartialEq + Send + 'static>(
+    work: impl Fn() -> T + Clone + Send + 'static,
+) -> io::Result<T> {
+    let start = |_| Builder::new().stack_size(STACK).spawn(work.clone());
+    let threads: Vec<_> = (0..THREADS).map(start).collect::<io::Result<_>>()?;
+    let mut first: Option<T> = None;
     for thread in threads {
         let next = thread.join().map_err(|_| io::Error::other("a thread panics"))?;
-        let next = next.map_err(io::Error::other)?;
         if first.as_ref().is_some_and(|first| *first != next) {
             return Err(io::Error::other("the threads are told different things"));
         }
         first = Some(next);
     }
     first.ok_or_else(|| io::Error::other("no thread"))
+}
+
+/// What all threads are told of a file
+fn told(file: Vec<u8>) -> io::Result<Both> {
+    let file = Arc::new(file);
+    on_all(move || both(&file))?.map_err(io::Error::other)
 }
 
 fn tell(name: &Path) -> io::Result<Both> {
@@ -79,6 +105,30 @@ fn print(name: &Path, both: &Both, to: &mut impl Write) -> io::Result<()> {
     inspection.print("inspect", to)
 }
 
+/// The bytes of clauses, a clause a line: three counts, of which the second is that of its atoms, six bytes for each of these, and four for the
+/// literal.
+fn print_clauses(mut clauses: &[u8], to: &mut impl Write) -> io::Result<()> {
+    while let Some(atoms) = clauses.get(1) {
+        let (clause, rest) = clauses.split_at(3 + 6 * usize::from(*atoms) + 4);
+        let bytes: Vec<String> = clause.iter().map(|byte| format!("{byte:02x}")).collect();
+        writeln!(to, "{}", bytes.join(" "))?;
+        clauses = rest;
+    }
+    Ok(())
+}
+
+fn print_tables(to: &mut impl Write) -> io::Result<()> {
+    for (Table { name, .. }, made) in TABLES.iter().zip(on_all(made)?) {
+        let (clauses, number, place) = match made {
+            Ok(clauses) => (clauses, refusal::ACCEPTED, 0),
+            Err(Refused { number, place }) => (Vec::new(), number, place),
+        };
+        writeln!(to, "table, {name}: {} bytes, number {number}, place {place}", clauses.len())?;
+        print_clauses(&clauses, to)?;
+    }
+    Ok(())
+}
+
 fn run(names: &[OsString]) -> io::Result<ExitCode> {
     let mut to = io::BufWriter::new(io::stdout());
     let mut status = ExitCode::SUCCESS;
@@ -91,6 +141,7 @@ fn run(names: &[OsString]) -> io::Result<ExitCode> {
             }
         }
     }
+    print_tables(&mut to)?;
     to.flush()?;
     Ok(status)
 }

@@ -1,5 +1,5 @@
-//! The proved judge of run files behind safe functions. `include/drf.h` declares the same two for C and says what holds of both;
-//! `docs/INTEGRATION.md` says what is proved of them, and what of this crate is not.
+//! The proved judge of run files, and clauses from a lookup table, behind safe functions. `include/drf.h` declares the same three for C and
+//! says what holds of each; `docs/INTEGRATION.md` says what is proved of them, and what of this crate is not.
 //!
 //! ```
 //! let mut out = vec![0; drf::MOST_LISTING];
@@ -20,7 +20,16 @@ pub const MOST_LISTING: usize = 54_008;
 /// A buffer of so many bytes has room for every listing with its final state, and a shorter one is refused.
 pub const MOST_INSPECTION: usize = 136_078;
 
-/// The stack of a thread that calls, in bytes; file and buffer are not in it. What a thread has where nothing is said is enough:
+/// "Make the input clauses from up to 48 rows of key and result": a table with more is refused.
+pub const MOST_ROWS: usize = 48;
+
+/// The largest key and the largest result of a table; the least is as far below 0. It is the largest c of an atom.
+pub const MOST_C: i32 = 1_000_000;
+
+/// A buffer of so many bytes has room for the clauses of every table.
+pub const MOST_TABLE: usize = 1_488;
+
+/// The stack of a thread that calls, in bytes; what is lent is not in it. What a thread has where nothing is said is enough:
 /// `std::thread` gives 2 MiB.
 pub const STACK: usize = 131_072;
 
@@ -45,6 +54,9 @@ pub mod refusal {
     pub const NOT_ABOVE: u8 = 16;
     pub const KEPT_NOT_POSSIBLE: u8 = 17;
     pub const NO_ROOM: u8 = 18;
+    pub const TOO_MANY_ROWS: u8 = 19;
+    pub const NOT_IN_ORDER: u8 = 20;
+    pub const BUFFER_SHORT: u8 = 21;
 }
 
 extern "C" {
@@ -65,9 +77,18 @@ extern "C" {
         ends: *mut u64,
         ends_len: usize,
     ) -> u64;
+    fn drf_table(
+        keys: *const i32,
+        keys_len: usize,
+        results: *const i32,
+        results_len: usize,
+        approximate: u8,
+        out: *mut u8,
+        out_len: usize,
+    ) -> u32;
 }
 
-/// An exported function
+/// An exported function that tells of a file
 type Exported = unsafe extern "C" fn(*const u8, usize, *mut u8, usize, *mut u64, usize) -> u64;
 
 /// The last line of a listing. It is shown in the listing's words.
@@ -166,4 +187,79 @@ fn verdict(text: &[u8]) -> Verdict {
         Some(b"stopped") => Verdict::Stopped,
         _ => Verdict::BadFile,
     }
+}
+
+/// The kind of match by which a row of a table is found at x
+#[derive(Clone, Copy, Debug, PartialEq, Eq, PartialOrd, Ord, Hash)]
+pub enum Match {
+    /// The row of the equal key
+    Exact,
+    /// The row of the largest key not above x
+    Approximate,
+}
+
+/// A table is refused. The buffer is as it was.
+#[derive(Clone, Copy, Debug, PartialEq, Eq)]
+pub struct Refused {
+    /// `TOO_MANY_ROWS`, `NOT_IN_ORDER` or `BUFFER_SHORT` of `refusal`
+    pub number: u8,
+    /// 0: no row is named.
+    pub place: u8,
+}
+
+/// The number, and the words that it has in "Clauses from a lookup table" of "Further change requests"
+impl fmt::Display for Refused {
+    fn fmt(&self, to: &mut fmt::Formatter) -> fmt::Result {
+        let words = match self.number {
+            refusal::TOO_MANY_ROWS => "more than 48 rows",
+            refusal::NOT_IN_ORDER => {
+                "keys not strictly rising, or a key or result outside ±1,000,000"
+            }
+            refusal::BUFFER_SHORT => "buffer too short",
+            other => return write!(to, "refused {other}"),
+        };
+        write!(to, "refused {}: {words}", self.number)
+    }
+}
+
+impl std::error::Error for Refused {}
+
+/// The input clauses of a lookup table, written to the front of the buffer as a run file has them, without their number: one for each key
+/// with the result at its place. Gets(x, y), of which they say what the table returns, is predicate 1 and has two arguments. A key without a
+/// result is refused as `NOT_IN_ORDER`; results past the keys are not looked at.
+///
+/// ```
+/// let mut out = [0; drf::MOST_TABLE];
+/// let clauses = drf::table(&[-1], &[3], drf::Match::Approximate, &mut out)?;
+/// let atoms = [0, 1, 1, 0, 0, 0, 0, 2, 253, 255, 255, 255, 2, 0, 3, 0, 0, 0]; // 0 - x <= 1, 0 - y <= -3, y - 0 <= 3
+/// assert_eq!(clauses, [&[2, 3, 1][..], &atoms, &[1, 1, 1, 2]].concat());
+///
+/// let refused = drf::table(&[4120, 4100], &[1, 2], drf::Match::Exact, &mut out).unwrap_err();
+/// assert_eq!((refused.number, refused.place), (drf::refusal::NOT_IN_ORDER, 0));
+/// # Ok::<(), drf::Refused>(())
+/// ```
+pub fn table<'a>(
+    keys: &[i32],
+    results: &[i32],
+    kind: Match,
+    out: &'a mut [u8],
+) -> Result<&'a [u8], Refused> {
+    // SAFETY: as in `told`, of these three slices: `keys` and `results` are read, and may be the same; `out` is borrowed mutably.
+    let answer = unsafe {
+        drf_table(
+            keys.as_ptr(),
+            keys.len(),
+            results.as_ptr(),
+            results.len(),
+            (kind == Match::Approximate).into(),
+            out.as_mut_ptr(),
+            out.len(),
+        )
+    };
+    // No table has more bytes, and the least refusal is 19 times 256.
+    if answer as usize > MOST_TABLE {
+        let [place, number, ..] = answer.to_le_bytes();
+        return Err(Refused { number, place });
+    }
+    Ok(&out[..answer as usize])
 }

@@ -49,6 +49,24 @@ fn buffers() {
     assert_eq!(header.get("STACK"), Some(&drf::STACK), "STACK in include/drf.h");
 }
 
+/// The bytes of a table are those of its rows: three counts, at most four atoms and a literal each.
+#[test]
+fn tables() {
+    let header = defined(&text("include/drf.h"));
+    let basis = text("crates/basis/src/lib.rt");
+    let (counts, signed) = (constants(&basis, "usize"), constants(&basis, "i32"));
+    assert_eq!(counts.get("MOST_ROWS"), Some(&drf::MOST_ROWS), "MOST_ROWS in crates/basis");
+    assert_eq!(header.get("MOST_ROWS"), Some(&drf::MOST_ROWS), "MOST_ROWS in include/drf.h");
+    let most_c = drf::MOST_C as usize;
+    assert_eq!(signed.get("MOST_C"), Some(&most_c), "MOST_C in crates/basis");
+    assert_eq!(header.get("MOST_C"), Some(&most_c), "MOST_C in include/drf.h");
+    assert_eq!(header.get("MOST_TABLE"), Some(&drf::MOST_TABLE), "MOST_TABLE in include/drf.h");
+    let bound = "mostTableBytes = mostRows * (3 + 4 * 6 + 4)";
+    let claims = text("crates/lookup/specs/Claims.antt");
+    assert!(claims.lines().any(|line| line == bound), "crates/lookup has another bound");
+    assert_eq!(drf::MOST_TABLE, drf::MOST_ROWS * (3 + 4 * 6 + 4));
+}
+
 #[test]
 fn bytes_read() {
     let header = defined(&text("include/drf.h"));
@@ -63,7 +81,7 @@ fn bytes_read() {
 fn refusals() {
     let mut proved = constants(&text("crates/basis/src/lib.rt"), "u8");
     proved.insert("ACCEPTED".to_string(), 0);
-    assert_eq!(proved.len(), 19);
+    assert_eq!(proved.len(), 22);
     assert_eq!(constants(&text("drf/src/lib.rs"), "u8"), proved, "drf/src/lib.rs");
     let header = defined(&text("include/drf.h"));
     for (name, number) in &proved {
