@@ -1,9 +1,11 @@
 //! What the words of the command line ask for.
 
-use crate::commands::{Command, COMMANDS};
+use crate::commands::{Command, Outcome, Task, COMMANDS};
 use crate::filenames::on_one_line;
 use crate::files::ROUND;
 use crate::streams::Source;
+use crate::tables::Form;
+use drf::Match;
 use std::ffi::{OsStr, OsString};
 use std::num::NonZero;
 use std::os::unix::ffi::OsStrExt;
@@ -18,9 +20,12 @@ pub enum Request {
     Run(Job),
 }
 
+/// A command's task with the options given for it: what comes of a file
+type Work = Box<dyn Fn(&Source) -> Outcome + Sync>;
+
 /// A command with its files
 pub struct Job {
-    pub command: &'static Command,
+    pub work: Work,
     pub sources: Vec<Source>,
     pub threads: usize,
 }
@@ -30,6 +35,8 @@ struct Asked {
     /// Whatever else is asked for
     first: Option<Request>,
     threads: usize,
+    /// Those that go with `table` alone, in their order
+    of_table: Vec<&'static str>,
 }
 
 /// An option: how it is written, and what it asks for. `help.txt` lists the same.
@@ -44,8 +51,15 @@ enum Effect {
     Takes(fn(&mut Asked, Option<&OsStr>) -> Result<(), String>),
 }
 
-const OPTIONS: [Entry; 3] = [
+const EXACT: &str = "--exact";
+const APPROXIMATE: &str = "--approximate";
+const TEXT: &str = "--text";
+
+const OPTIONS: [Entry; 6] = [
     Entry { names: &["-j"], effect: Effect::Takes(threads) },
+    Entry { names: &[EXACT], effect: Effect::Sets(|asked| asked.of_table.push(EXACT)) },
+    Entry { names: &[APPROXIMATE], effect: Effect::Sets(|asked| asked.of_table.push(APPROXIMATE)) },
+    Entry { names: &[TEXT], effect: Effect::Sets(|asked| asked.of_table.push(TEXT)) },
     Entry {
         names: &["-h", "--help"],
         effect: Effect::Sets(|asked| asked.first = Some(Request::Help)),
@@ -59,7 +73,8 @@ const OPTIONS: [Entry; 3] = [
 /// What is asked for, or what is wrong.
 pub fn read(mut words: impl Iterator<Item = OsString>) -> Result<Request, String> {
     let cores = available_parallelism().map_or(1, NonZero::get);
-    let mut asked = Asked { first: None, threads: cores.min(MOST_THREADS) };
+    let threads = cores.min(MOST_THREADS);
+    let mut asked = Asked { first: None, threads, of_table: Vec::new() };
     let mut operands = Vec::new();
     while let Some(word) = words.next() {
         if word == "--" {
@@ -73,7 +88,7 @@ pub fn read(mut words: impl Iterator<Item = OsString>) -> Result<Request, String
             return Ok(request);
         }
     }
-    job(operands, asked.threads).map(Request::Run)
+    job(operands, &asked).map(Request::Run)
 }
 
 fn option(
@@ -112,7 +127,7 @@ fn threads(asked: &mut Asked, word: Option<&OsStr>) -> Result<(), String> {
 }
 
 /// The first operand is the command's word, the others are its files.
-fn job(operands: Vec<OsString>, threads: usize) -> Result<Job, String> {
+fn job(operands: Vec<OsString>, asked: &Asked) -> Result<Job, String> {
     let mut operands = operands.into_iter();
     let words = COMMANDS.map(|command| command.word).join(", ");
     let word = operands.next().ok_or(format!("no command: it is one of {words}"))?;
@@ -120,13 +135,38 @@ fn job(operands: Vec<OsString>, threads: usize) -> Result<Job, String> {
         .iter()
         .find(|command| word == command.word)
         .ok_or(format!("unknown command {}: it is none of {words}", on_one_line(&word)))?;
+    let work = with_options(command, &asked.of_table)?;
     let sources: Vec<Source> = operands.map(Source::of).collect();
     let inputs = sources.iter().filter(|source| **source == Source::Input).count();
     match sources.len() {
         0 => Err(format!("{}: no FILE", command.word)),
         2.. if !command.several => Err(format!("{}: more than one FILE", command.word)),
         _ if inputs > 1 => Err("standard input (-) stands more than once".to_string()),
-        _ => Ok(Job { command, sources, threads }),
+        _ => Ok(Job { work, sources, threads: asked.threads }),
+    }
+}
+
+/// A command's task with these options of `table`, which no other command takes.
+fn with_options(command: &Command, of_table: &[&str]) -> Result<Work, String> {
+    let word = command.word;
+    match (&command.task, of_table) {
+        (Task::Plain(task), []) => Ok(Box::new(*task)),
+        (Task::Plain(_), [option, ..]) => Err(format!("{word}: {option} goes with table alone")),
+        (Task::Table(task), options) => {
+            let (task, kind) = (*task, kind_of_match(word, options)?);
+            let form = if options.contains(&TEXT) { Form::Text } else { Form::Bytes };
+            Ok(Box::new(move |source| task(source, kind, form)))
+        }
+    }
+}
+
+/// The one kind of match that is asked for
+fn kind_of_match(word: &str, options: &[&str]) -> Result<Match, String> {
+    match (options.contains(&EXACT), options.contains(&APPROXIMATE)) {
+        (true, false) => Ok(Match::Exact),
+        (false, true) => Ok(Match::Approximate),
+        (true, true) => Err(format!("{word} takes one of {EXACT} and {APPROXIMATE}")),
+        (false, false) => Err(format!("{word} takes {EXACT} or {APPROXIMATE}")),
     }
 }
 

@@ -1,22 +1,31 @@
-//! The four commands: what comes of one file.
+//! The commands: what comes of one file.
 
 use crate::status::Status;
 use crate::streams::{reason, Source};
-use drf::{Short, Told, Verdict, MOST_INSPECTION, MOST_LISTING, MOST_READ};
+use crate::tables::{table, Form};
+use drf::{Match, Short, Told, Verdict, MOST_INSPECTION, MOST_LISTING, MOST_READ};
 use shell::text::{self, MOST_TEXT};
 
 pub struct Command {
     pub word: &'static str,
     /// It takes several files, else one.
     pub several: bool,
-    pub of: fn(&Source) -> Outcome,
+    pub task: Task,
 }
 
-pub const COMMANDS: [Command; 4] = [
-    Command { word: "judge", several: true, of: judge },
-    Command { word: "inspect", several: true, of: inspect },
-    Command { word: "text", several: false, of: text },
-    Command { word: "bytes", several: false, of: bytes },
+/// What a command makes of a file
+pub enum Task {
+    Plain(fn(&Source) -> Outcome),
+    /// By the options that go with `table` alone
+    Table(fn(&Source, Match, Form) -> Outcome),
+}
+
+pub const COMMANDS: [Command; 5] = [
+    Command { word: "judge", several: true, task: Task::Plain(judge) },
+    Command { word: "inspect", several: true, task: Task::Plain(inspect) },
+    Command { word: "text", several: false, task: Task::Plain(text) },
+    Command { word: "bytes", several: false, task: Task::Plain(bytes) },
+    Command { word: "table", several: false, task: Task::Table(table) },
 ];
 
 /// What comes of a file: something on standard output, or a line on standard error in its stead.
@@ -74,6 +83,6 @@ fn bytes(source: &Source) -> Outcome {
     Ok(Printed { status: Status::Done, bytes })
 }
 
-fn read(source: &Source, most: usize) -> Result<Vec<u8>, Failed> {
+pub fn read(source: &Source, most: usize) -> Result<Vec<u8>, Failed> {
     source.read(most).map_err(|fault| Failed { status: Status::Stream, reason: reason(&fault) })
 }

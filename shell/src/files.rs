@@ -38,7 +38,7 @@ fn outcomes(job: &Job, round: &[Source]) -> Vec<Outcome> {
     side_by_side(job.threads.min(round.len()), THREAD_STACK, || loop {
         let index = next.fetch_add(1, Ordering::Relaxed);
         let Some(source) = round.get(index) else { break };
-        slots[index].get_or_init(|| (job.command.of)(source));
+        slots[index].get_or_init(|| (job.work)(source));
     });
     slots.into_iter().map(|slot| slot.into_inner().expect("every file was taken")).collect()
 }

@@ -6,6 +6,7 @@ mod filenames;
 mod files;
 mod status;
 mod streams;
+mod tables;
 
 use arguments::Request;
 use status::Status;

@@ -4,13 +4,14 @@ use drf::Verdict;
 
 #[derive(Clone, Copy, Debug, PartialEq, Eq)]
 pub enum Status {
-    /// Refuted; of the text form: printed.
+    /// Refuted; of the text form and of a table: printed.
     Done = 0,
-    /// What was asked for is nothing that the command does.
+    /// What was asked for is nothing that the command does, or the rows of a table can't be read.
     Usage = 2,
     /// Something could not be read or written. Never a verdict.
     Stream = 3,
     Open = 10,
+    /// Or a table that is refused.
     Stopped = 20,
     /// A bad file, or a text that says no run file.
     Bad = 30,

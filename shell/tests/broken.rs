@@ -1,9 +1,9 @@
-//! Texts that say no run file: those of broken.txt give the faults that stand there, and whatever a text is changed to, a fault tells of
-//! what stands at its place.
+//! Texts that say no run file: those of broken.txt give the faults that stand there, and whatever a text or a table is changed to, a fault
+//! tells of what stands at its place.
 
 use checker::generate::generate;
 use checker::random::Random;
-use shell::text::{bytes, text, Fault};
+use shell::text::{bytes, rows, text, Fault};
 use std::thread;
 
 /// A text of broken.txt and its fault
@@ -183,4 +183,40 @@ fn changed_texts() {
     }
     println!("of {CHANGES} changed texts {} say a file, {} have a fault", sum.0, sum.1);
     assert!(sum.0 > 10_000 && sum.1 > 10_000, "one kind is rare: {sum:?}");
+}
+
+/// A table of some rows, blanks and signs here and there
+fn some_table(random: &mut Random) -> String {
+    let number = |random: &mut Random| {
+        let blank = random.pick(&["", "", " ", "\t "]);
+        let sign = random.pick(&["", "", "-", "+"]);
+        format!("{blank}{sign}{}{blank}", random.below(5_000))
+    };
+    let row = |random: &mut Random| format!("{},{}", number(random), number(random));
+    let rows: Vec<String> = (0..random.below(4) + 1).map(|_| row(random)).collect();
+    rows.join(&random.pick(&["\n", "\r\n"])) + &random.pick(&["", "\n", "\r\n\r\n"])
+}
+
+#[test]
+fn changed_tables() {
+    let (mut tables, mut faults) = (0, 0);
+    for seed in 0..CHANGES {
+        let random = &mut Random::new(seed);
+        let changed = changed(&some_table(random), random);
+        let shown = String::from_utf8_lossy(&changed);
+        match rows(&changed) {
+            Ok(found) => {
+                let again: String =
+                    found.iter().map(|row| format!("{},{}\n", row.key, row.result)).collect();
+                assert_eq!(rows(again.as_bytes()), Ok(found), "seed {seed}:\n{shown}");
+                tables += 1;
+            }
+            Err(fault) => {
+                assert_eq!(misplaced(&changed, &fault), None, "seed {seed}: {fault}\n{shown}");
+                faults += 1;
+            }
+        }
+    }
+    println!("of {CHANGES} changed tables {tables} have rows, {faults} a fault");
+    assert!(tables > 10_000 && faults > 10_000, "one kind is rare: {tables} {faults}");
 }

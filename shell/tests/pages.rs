@@ -1,6 +1,10 @@
-//! docs/FORMAT.md, docs/REFUSALS.md, docs/EXAMPLES.md, README.md's example and examples/, held against the tool: what a page says of a run is
-//! what is printed of it. And the links of all pages.
+//! docs/FORMAT.md, docs/REFUSALS.md, docs/EXAMPLES.md, README.md's example and examples/, held against the tool: what a page says of a run or
+//! a table is what is printed of it. And the links of all pages.
 
+mod common;
+
+use common::{Ended, Folder};
+use drf::refusal::TOO_MANY_ROWS;
 use std::collections::BTreeMap;
 use std::fs;
 use std::path::{Path, PathBuf};
@@ -27,6 +31,35 @@ fn inspection(file: &[u8]) -> String {
 /// The run file that a text says
 fn said(text: &str) -> Vec<u8> {
     shell::text::bytes(text.as_bytes()).unwrap_or_else(|fault| panic!("{fault}, in\n{text}"))
+}
+
+/// What the command says of the rows of a table
+fn table(rows: &str, options: &str) -> Ended {
+    let folder = Folder::new(&format!("pages/{:?}", std::thread::current().id()));
+    folder.put("rows.csv", rows);
+    folder.run(&format!("drf table {options} rows.csv"))
+}
+
+/// The lines of a table's clauses, for a kind of match
+fn table_lines(rows: &str, kind: &str) -> String {
+    let ended = table(rows, &format!("--{kind} --text"));
+    assert_eq!((ended.status, ended.err.as_str()), (Some(0), ""), "{rows}");
+    ended.out
+}
+
+/// What the library makes of them, with a buffer of so many bytes
+fn made(rows: &str, kind: &str, room: usize) -> Result<Vec<u8>, drf::Refused> {
+    let number = |text: &str| text.parse::<i32>().expect("a number");
+    let pairs = rows.lines().map(|row| row.split_once(", ").expect("a row"));
+    let (keys, results): (Vec<i32>, Vec<i32>) =
+        pairs.map(|(key, result)| (number(key), number(result))).unzip();
+    let kind = match kind {
+        "exact" => drf::Match::Exact,
+        "approximate" => drf::Match::Approximate,
+        _ => panic!("{kind:?} is no kind of match"),
+    };
+    let mut buffer = vec![0; room];
+    drf::table(&keys, &results, kind, &mut buffer).map(<[u8]>::to_vec)
 }
 
 // ---- the pages
@@ -135,6 +168,9 @@ fn step_number(line: &str) -> Option<usize> {
 
 // ---- examples
 
+/// The only example that is no run
+const CODES: &str = "examples/codes.csv";
+
 /// The names of the files in examples/ with this ending
 fn examples(ending: &str) -> Vec<String> {
     let folder = fs::read_dir(root("examples")).expect("examples/");
@@ -163,6 +199,9 @@ fn examples_have_their_listings() {
     let mut told = Vec::new();
     for section in sections("docs/EXAMPLES.md") {
         let file = section.heading.split('`').nth(1);
+        if file == Some(CODES) {
+            continue;
+        }
         let listings: Vec<&str> = section.blocks.iter().map(|block| block.body.as_str()).collect();
         assert!(section.blocks.iter().all(|block| block.kind == "listing"), "{}", section.heading);
         match file {
@@ -175,6 +214,63 @@ fn examples_have_their_listings() {
     let files: Vec<String> =
         examples("drf").iter().map(|name| format!("examples/{name}.drf")).collect();
     assert_eq!(told, files);
+}
+
+#[test]
+fn code_table_has_the_clauses_printed() {
+    let section =
+        section("docs/EXAMPLES.md", &format!("`{CODES}`: soda ash, lime and the next row"));
+    let kinds: Vec<&str> = section.blocks.iter().map(|block| block.kind.as_str()).collect();
+    assert_eq!(kinds, ["exact", "approximate"]);
+    assert_eq!(examples("csv"), ["codes"]);
+    for block in &section.blocks {
+        assert!(section.quoted().iter().any(|word| word.contains(&format!("--{}", block.kind))));
+        assert_eq!(block.body, table_lines(&read_text(CODES), &block.kind));
+    }
+}
+
+/// The rows of the code table but lime's
+fn without_lime() -> String {
+    let codes = read_text(CODES);
+    assert_eq!(codes.lines().count(), 3);
+    codes.split_inclusive('\n').filter(|row| !row.starts_with("4120,")).collect()
+}
+
+/// The lines of a text above the clauses, and its clauses
+fn head_and_clauses(text: &str) -> (Vec<&str>, Vec<&str>) {
+    let lines = text.lines().filter(|line| step_number(line).is_none());
+    lines.partition(|line| !line.starts_with("clause "))
+}
+
+#[test]
+fn lookup_has_the_clauses_of_the_table_without_lime() {
+    let text = shell::text::text(&read("examples/lookup.drf")).expect("a valid file");
+    let (_, clauses) = head_and_clauses(&text);
+    let table = table_lines(&without_lime(), "approximate");
+    assert_eq!(clauses[..2], table.lines().collect::<Vec<_>>());
+    assert_eq!(clauses.len(), 3);
+}
+
+/// On each clause of the table, at every instance, the propagation or the conflict after it is refused.
+#[test]
+fn lookup_has_no_refutation_with_exact_match() {
+    let text = shell::text::text(&read("examples/lookup.drf")).expect("a valid file");
+    let (head, clauses) = head_and_clauses(&text);
+    let exact = table_lines(&without_lime(), "exact");
+    for clause in [1, 2] {
+        for (at, refused) in [
+            ("(1,1)", "2 conflict"),
+            ("(1,2)", "1 propagate"),
+            ("(2,1)", "1 propagate"),
+            ("(2,2)", "2 conflict"),
+        ] {
+            let steps = format!("propagate {clause} 1 {at}\nconflict 3 {at}\n");
+            let run = format!("{}\n{exact}{}\n{steps}", head.join("\n"), clauses[2]);
+            let (printed, _) = judged(&said(&run));
+            let end = format!("{refused} refused 13\nstopped\n");
+            assert!(printed.ends_with(&end), "{run}{printed}");
+        }
+    }
 }
 
 /// The lines of a text up to a step
@@ -244,13 +340,13 @@ fn no_step_on_clauses_3_to_6(decided: &str, constant: char) {
 
 // ---- refusals
 
-/// The paper's words for each number, as the definitions quote them
+/// The words of the paper and the requests for each number, as the definitions quote them
 fn words() -> BTreeMap<usize, String> {
     let text = read_text("crates/basis/specs/Refusals.antt");
     let mut quoted = String::new();
     let mut words = BTreeMap::new();
     for line in text.lines() {
-        if let Some(quote) = line.strip_prefix("-- \"").and_then(|line| line.strip_suffix('"')) {
+        if let Some((quote, _)) = line.strip_prefix("-- \"").and_then(|line| line.split_once('"')) {
             quoted = quote.to_string();
         }
         let number = line.split_once(" = ").and_then(|(_, number)| number.parse().ok());
@@ -274,8 +370,18 @@ fn every_number_has_its_section() {
         refusals().into_iter().map(|(_, section)| section.heading).collect();
     let words: Vec<String> =
         words().iter().map(|(number, words)| format!("{number}: {words}")).collect();
-    assert_eq!(words.len(), 18);
+    assert_eq!(words.len(), 21);
     assert_eq!(headings, words);
+}
+
+/// The sections of the numbers that a run can be refused by
+fn of_runs() -> Vec<(usize, Section)> {
+    refusals().into_iter().filter(|(number, _)| *number < TOO_MANY_ROWS.into()).collect()
+}
+
+/// The sections of the numbers that a table can be refused by
+fn of_tables() -> Vec<(usize, Section)> {
+    refusals().into_iter().filter(|(number, _)| *number >= TOO_MANY_ROWS.into()).collect()
 }
 
 /// Whether a listing ends with this refusal
@@ -287,7 +393,7 @@ fn refuses(listing: &str, number: usize) -> bool {
 
 #[test]
 fn refusals_are_those_of_their_examples() {
-    for (number, section) in refusals() {
+    for (number, section) in of_runs() {
         let pairs = section.pairs("listing");
         assert_eq!(pairs.is_empty(), number == 17, "{number}");
         for (run, listing) in pairs {
@@ -314,7 +420,7 @@ fn without(text: &str, line_left_out: usize) -> String {
 
 #[test]
 fn no_step_of_an_example_can_be_left_out() {
-    for (number, section) in refusals() {
+    for (number, section) in of_runs() {
         for (run, _) in section.pairs("listing").iter().filter(|(run, _)| run.kind == "drf") {
             let steps =
                 run.body.lines().enumerate().filter(|(_, line)| step_number(line).is_some());
@@ -323,6 +429,42 @@ fn no_step_of_an_example_can_be_left_out() {
                 assert!(!refuses(&rest, number), "{number}: {line} is not needed:\n{}", run.body);
             }
         }
+    }
+}
+
+/// What is said of the rows of a block that names a kind of match: by the command; or by the library, where it names a buffer's length too.
+fn refused(kind: &str, rows: &str) -> String {
+    if let Some((kind, room)) = kind.split_once(' ') {
+        let refused = made(rows, kind, room.parse().expect("a number of bytes")).err();
+        return refused.map_or(String::new(), |refused| format!("{refused}\n"));
+    }
+    let Ended { status, out, err } = table(rows, &format!("--{kind}"));
+    assert!(err.is_empty() || out.is_empty() && status == Some(20), "{status:?} {err}");
+    err.strip_prefix("drf: rows.csv: ").unwrap_or_default().to_string()
+}
+
+#[test]
+fn refusals_of_tables_are_those_of_their_examples() {
+    for (number, section) in of_tables() {
+        let pairs = section.pairs("refused");
+        assert!(!pairs.is_empty(), "{number}");
+        for (rows, below) in pairs {
+            assert_eq!(below.body, refused(&rows.kind, &rows.body), "{number}: of\n{}", rows.body);
+            assert!(below.body.starts_with(&format!("refused {number}: ")), "{number}");
+            for row in rows.body.split_inclusive('\n') {
+                let rest = rows.body.replacen(row, "", 1);
+                assert_eq!(refused(&rows.kind, &rest), "", "{number}: {row} is not needed");
+            }
+        }
+    }
+}
+
+/// The library says a refusal in the words of its heading.
+#[test]
+fn refusals_of_tables_have_their_words() {
+    for (number, section) in of_tables() {
+        let refused = drf::Refused { number: number as u8, place: 0 };
+        assert_eq!(refused.to_string(), format!("refused {}", section.heading));
     }
 }
 
@@ -358,8 +500,9 @@ fn source(name: &str) -> usize {
         "MOST_LISTING" => drf::MOST_LISTING,
         "MOST_INSPECTION" => drf::MOST_INSPECTION,
         "MOST_TEXT" => shell::text::MOST_TEXT,
+        "MOST_TABLE" => drf::MOST_TABLE,
         "MOST_STEPS" => constant("crates/fields/src/lib.rt", "const MOST_STEPS: u32 = "),
-        "MOST_C" => constant("crates/basis/src/lib.rt", "pub const MOST_C: i32 = "),
+        "MOST_C" => drf::MOST_C as usize,
         "MostFileCounted" => {
             constant("crates/runfile/specs/Claims.antt", "MostFileCounted = mostFile ≡ ")
         }
@@ -465,6 +608,61 @@ fn text_form_is_as_the_page_says() {
             Ok(_) => panic!("not broken:\n{}", broken.body),
             Err(found) => assert_eq!(fault.body, format!("{found}\n")),
         }
+    }
+}
+
+#[test]
+fn tables_are_as_the_page_says() {
+    let section = section(FORMAT, "A lookup table");
+    let [rows, exact, approximate, broken, fault] = &section.blocks[..] else { panic!("blocks") };
+    let blocks = section.blocks.iter().map(|block| block.kind.as_str());
+    assert!(blocks.eq(["rows", "exact", "approximate", "unreadable", "fault"]));
+    for lines in [exact, approximate] {
+        assert_eq!(lines.body, table_lines(&rows.body, &lines.kind));
+    }
+    let mut clause = Vec::new();
+    for row in section.rows() {
+        let Some(place) = number(&row[0]) else { continue };
+        assert_eq!(place, clause.len(), "{row:?}");
+        clause.extend(hex(&row[1]));
+    }
+    let clauses = made(&rows.body, "approximate", drf::MOST_TABLE).expect("a table in order");
+    assert!(clauses.starts_with(&clause) && clause.len() == 31, "{clauses:?}");
+    let ended = table(&broken.body, "--exact");
+    let expected = format!("drf: rows.csv: {}", fault.body);
+    assert_eq!(ended, Ended { status: Some(2), out: String::new(), err: expected });
+}
+
+/// One use for each fault, in their order, which has those of the rows below it too where it can.
+#[test]
+fn faults_of_tables_are_as_the_page_says() {
+    let section = section(FORMAT, "A lookup table");
+    let cells = section.prose.iter().map(|line| line.trim_matches(['|', ' ']).split(" | "));
+    let faults: Vec<(&str, usize)> = cells
+        .filter_map(|cells| match cells.collect::<Vec<_>>()[..] {
+            [_, said, status] => Some((said, number(status)?)),
+            _ => None,
+        })
+        .collect();
+    let uses = [
+        ("table", "missing.csv >&-"),
+        ("table --exact", "missing.csv >&-"),
+        ("table --exact", "missing.csv >/dev/full"),
+        ("table --exact", "broken.csv >/dev/full"),
+        ("table --exact", "falling.csv >/dev/full"),
+        ("table --exact", "rows.csv >/dev/full"),
+    ];
+    assert_eq!(faults.len(), uses.len());
+    let folder = Folder::new("pages/faults");
+    folder.put("broken.csv", "2, 2\n1, 1\nx\n");
+    folder.put("falling.csv", "2, 2\n1, 1\n");
+    folder.put("rows.csv", "1, 1\n");
+    for ((said, status), (words, file)) in faults.iter().zip(uses) {
+        let ended = folder.run(&format!("drf {words} {file}"));
+        assert_eq!(ended.status, Some(*status as i32), "{said}: {ended:?}");
+        let name = file.split(' ').next().unwrap_or_default();
+        let begins = said.split('`').nth(1).unwrap_or_default().replace("FILE", name);
+        assert!(ended.err.starts_with(&format!("drf: {begins}")), "{said}: {ended:?}");
     }
 }
 

@@ -56,7 +56,7 @@ pub(super) fn shown(token: &str) -> String {
 }
 
 /// A token, or the start of a long one
-pub(super) fn cut(token: &str) -> String {
+pub fn cut(token: &str) -> String {
     let mut start: String = token.chars().take(MOST_SHOWN).map(legible).collect();
     if token.chars().nth(MOST_SHOWN).is_some() {
         start.push_str("..");

@@ -62,6 +62,12 @@ pub fn opening(version: u16) -> Vec<u8> {
     [MARK.as_slice(), &version.to_le_bytes()].concat()
 }
 
+/// A file of version 1 with these clauses alone: no constants and no steps
+pub fn clauses_alone(arities: &[u8], count: u8, clauses: &[u8]) -> Vec<u8> {
+    let head = [&opening(1)[..], &[0, arities.len() as u8], arities, &[count]].concat();
+    [&head[..], clauses, &[0, 0]].concat()
+}
+
 /// The version of a file and the bytes behind it
 pub fn opened(file: &[u8]) -> Option<(&'static Version, &[u8])> {
     let (version, fields) = file.strip_prefix(MARK)?.split_first_chunk()?;

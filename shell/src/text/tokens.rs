@@ -46,7 +46,8 @@ impl<'a> Iterator for Lines<'a> {
                 Some((line, rest)) => (line.strip_suffix('\r').unwrap_or(line), Some(rest)),
                 None => (rest, None),
             };
-            let line = Line { number: self.number, column: 1, rest: self.line }.at_token();
+            let line = Line { number: self.number, column: 1, rest: self.line, comments: true };
+            let line = line.at_token();
             if !line.rest.is_empty() {
                 return Some(line);
             }
@@ -63,13 +64,20 @@ pub struct Line<'a> {
     column: usize,
     /// From the next token on; empty at the line's end
     rest: &'a str,
+    /// `#` and what follows it is a comment.
+    comments: bool,
 }
 
 impl<'a> Line<'a> {
+    /// A line without comments
+    pub fn plain(number: usize, line: &'a str) -> Line<'a> {
+        Line { number, column: 1, rest: line, comments: false }.at_token()
+    }
+
     /// The line with blanks passed over, and the comment where nothing else is left.
     fn at_token(self) -> Line<'a> {
         let rest = self.rest.trim_start_matches([' ', '\t']);
-        if rest.is_empty() || rest.starts_with('#') {
+        if rest.is_empty() || self.comments && rest.starts_with('#') {
             return Line { rest: "", ..self };
         }
         Line { column: self.column + self.rest.len() - rest.len(), rest, ..self }
@@ -116,6 +124,20 @@ impl<'a> Line<'a> {
         let token = self.token();
         let number = if is_number(token) { token.parse().ok() } else { None };
         let number = number.ok_or_else(|| self.fault(expected))?;
+        self.pass();
+        Ok(number)
+    }
+
+    /// A number of any length as it is written: digits, and a sign where one stands right before them
+    pub fn written(&mut self, expected: impl Display) -> Result<&'a str, Fault> {
+        let sign = usize::from(self.rest.starts_with(['+', '-']));
+        let digits = Line { column: self.column + sign, rest: &self.rest[sign..], ..*self };
+        if !is_number(digits.token()) {
+            let of_sign = || digits.fault("the digits of a number");
+            return Err(if sign == 0 { self.fault(expected) } else { of_sign() });
+        }
+        let number = &self.rest[..sign + digits.token().len()];
+        *self = digits;
         self.pass();
         Ok(number)
     }
