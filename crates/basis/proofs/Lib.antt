@@ -1,2 +1,3 @@
 -- What follows from the definitions by themselves.
 pub mod Order
+pub mod Choices

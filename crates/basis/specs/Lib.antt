@@ -1,5 +1,7 @@
--- What every other crate is said in: the paper's limits and refusal numbers, the atom, the numbers it is read over, and `Possible`.
+-- What every other crate is said in: the paper's limits and refusal numbers, the atom, the numbers it is read over, `Possible`, and the numbers
+-- behind a yes.
 pub mod Limits
 pub mod Refusals
 pub mod Numbers
 pub mod Atoms
+pub mod Choices

@@ -82,3 +82,9 @@ pub struct Literal {
     pub y: u8,
     pub z: u8,
 }
+
+// The witness record: the numbers behind a yes, one for each constant in order, 0 past the constants; or none, and then all are 0.
+pub struct Witness {
+    pub given: bool,
+    pub numbers: [i32; MOST_CONSTANTS],
+}

@@ -26,6 +26,9 @@ share-steep b e t h k = omega arith
 abbrev counts : ℕ → ℕ → ℕ → ℕ
 counts b e t = share b e (suc t) - share b e t
 
+same : (i k : ℕ) → i < suc k → k ≤ i → i ≡ k
+same i k h e = omega arith
+
 module _ (b : ℕ) (depth : ℕ → ℕ) where
   -- 1 if the depth t lies within b above one of the first k places, else 0.
   some : ℕ → ℕ → ℕ
@@ -41,9 +44,6 @@ module _ (b : ℕ) (depth : ℕ → ℕ) where
   unfolding some
   some-of zero t i h = absurd (omega arith)
   some-of (suc k) t i h = elim (decLt i k) [ yes e ↦ omega (arith, some-of k t i e) | no e ↦ omega (arith, ap (λ (n : ℕ). counts b (depth n) t) (same i k h (omega arith))) ]
-    where
-      same : (i k : ℕ) → i < suc k → k ≤ i → i ≡ k
-      same i k h e = omega arith
 
   -- How many of the depths below x are counted.
   pub counted : ℕ → ℕ → ℕ
@@ -63,6 +63,15 @@ module _ (b : ℕ) (depth : ℕ → ℕ) where
   pub counted-most : (k x : ℕ) → counted k x ≤ k * b
   counted-most zero x = omega (arith, counted-none x)
   counted-most (suc k) x = omega (arith, counted-one-more k x, counted-most k x, share-most b (depth k) x, suc-mul k b)
+
+  -- A place that is not deep at all needs no b of its own.
+  pub counted-less : (k x i : ℕ) → i < k → depth i ≡ 0 → counted k x + b ≤ k * b
+  unfolding share
+  counted-less zero x i h e = absurd (omega arith)
+  counted-less (suc k) x i h e = elim (decLt i k) [
+    | yes l ↦ omega (arith, counted-one-more k x, counted-less k x i l e, share-most b (depth k) x, suc-mul k b)
+    | no l ↦ omega (arith, counted-one-more k x, counted-most k x, ap depth (same i k h (omega arith)), suc-mul k b)
+  ]
 
   pub counted-step : (k x a : ℕ) → (counted k x ≤ counted k (x + a)) × (counted k (x + a) ≤ counted k x + a)
   unfolding counted

@@ -1,34 +1,35 @@
 -- Whole values drawn together: each value is read as a depth below the highest, and the depths are drawn together.
-use mathlib.Core.Path.{_≡_, ap}
-use Prim.Native.Nat.{ℕ, zero, suc, _+_, _-_, _*_, _≤_, _<_}
-use native.Mathlib.Decide.{decLt}
+use mathlib.Core.Path.{_≡_, ap, sym}
+use Prim.Native.Nat.{ℕ, suc, _+_, _-_, _*_, _≤_, _<_}
 use native.Mathlib.Omega.{arith}
-use lib.IntN.{ℤ, pos, negsuc, negℤ, _+ℤ_}
+use lib.IntN.{ℤ, pos, negsuc, negℤ, _+ℤ_, negℤ-negℤ}
+use lib.Signed.{_≤ℤ_}
 use Rattle.integers.specs.Sides.{over, under, Within}
 use Rattle.integers.proofs.Linear.{le→, →le, sum, negated}
-use Rattle.bounds.specs.Whole.{Together, Drawn}
-use Rattle.bounds.proofs.Depths.{counted, counted-most, counted-step, counted-rises, counted-steep}
+use Rattle.bounds.specs.Whole.{Together, Drawn, wholeBounds}
+use Rattle.bounds.specs.Squares.{Keeps, lowest}
+use Rattle.bounds.proofs.Lower.{lowest-least, lowest-all}
+use Rattle.bounds.proofs.Depths.{counted, counted-less, counted-most, counted-step, counted-rises, counted-steep}
 
 module _ (m b : ℕ) (v : ℕ → ℤ) where
-  -- A height that no value of the first k places exceeds.
-  top : ℕ → ℕ
-  top zero = 0
-  top (suc k) = top k + over (v k)
+  -- The highest value of the places
+  top : ℤ
+  top = negℤ (lowest wholeBounds (λ i. negℤ (v i)) (m - 1))
 
-  top-most : (k i : ℕ) → i < k → over (v i) ≤ top k
+  top-most : (i : ℕ) → i < m → v i ≤ℤ top
   unfolding top
-  top-most zero i h = absurd (omega arith)
-  top-most (suc k) i h = elim (decLt i k) [ yes e ↦ omega (arith, top-most k i e) | no e ↦ omega (arith, ap (λ (n : ℕ). over (v n)) (same i k h (omega arith))) ]
-    where
-      same : (i k : ℕ) → i < suc k → k ≤ i → i ≡ k
-      same i k h e = omega arith
+  top-most i h = →le (v i) top (omega (arith, le→ (lowest-least wholeBounds (λ i. negℤ (v i)) (m - 1) i (omega arith)), negated (v i), negated (lowest wholeBounds (λ i. negℤ (v i)) (m - 1))))
+
+  top-reached : (i : ℕ) × (i ≤ m - 1) × (v i ≡ top)
+  unfolding top
+  top-reached = lowest-all wholeBounds (λ x. (i : ℕ) × (i ≤ m - 1) × (v i ≡ negℤ x)) (λ i. negℤ (v i)) (m - 1) (λ i h. (i, h, sym (negℤ-negℤ (v i))))
 
   depth : ℕ → ℕ
-  depth i = (top m + under (v i)) - over (v i)
+  depth i = (over top + under (v i)) - (under top + over (v i))
 
-  depth-is : (i : ℕ) → i < m → depth i + over (v i) ≡ top m + under (v i)
+  depth-is : (i : ℕ) → i < m → depth i + (under top + over (v i)) ≡ over top + under (v i)
   unfolding depth
-  depth-is i h = omega (arith, top-most m i h)
+  depth-is i h = omega (arith, le→ (top-most i h))
 
   low : ℕ → ℕ
   low i = counted b depth m (depth i)
@@ -39,14 +40,14 @@ module _ (m b : ℕ) (v : ℕ → ℤ) where
   keeps-low p q (negsuc a) hp W h =
       omega (arith, counted-rises b depth m (depth q) (depth p - suc a) (omega arith), counted-steep b depth m p (depth p - suc a) (suc a) hp (omega arith) (omega (arith, W .below)))
 
-  draw : ℕ → ℤ
+  pub draw : ℕ → ℤ
   draw i = negℤ (pos (low i))
 
   draw-is : (i : ℕ) → (over (draw i) ≡ 0) × (under (draw i) ≡ low i)
   unfolding draw
   draw-is i = negated (pos (low i))
 
-  together : Together m b v draw
+  pub together : Together m b v draw
   unfolding low
   together = record {
     kept = λ p q c hp hq W h. →le (draw p) (c +ℤ draw q) (omega (
@@ -58,6 +59,17 @@ module _ (m b : ℕ) (v : ℕ → ℤ) where
     ));
     near = λ i j. →le (draw i) (pos (m * b) +ℤ draw j) (omega (arith, sum (pos (m * b)) (draw j), draw-is i, draw-is j, counted-most b depth m (depth j)));
   }
+
+  -- The highest place needs no share of its own.
+  pub nearer : 0 < m → (i j : ℕ) → Keeps wholeBounds draw i j (pos (m * b - b))
+  unfolding low depth
+  nearer h i j = let (t, l, e) = top-reached in →le (draw i) (pos (m * b - b) +ℤ draw j) (omega (
+    arith,
+    sum (pos (m * b - b)) (draw j),
+    draw-is i,
+    draw-is j,
+    counted-less b depth m (depth j) t (omega arith) (omega (arith, ap over e, ap under e)),
+  ))
 
 pub drawn : Drawn
 drawn m b v = (draw m b v, together m b v)

@@ -7,3 +7,5 @@ pub mod Depths
 pub mod Draw
 pub mod Bare
 pub mod Decided
+pub mod Choices
+pub mod Numbers

@@ -2,8 +2,9 @@
 use mathlib.Core.Path.{_≡_, refl, sym, subst}
 use mathlib.Core.Bool.{Bool, true, false, cond}
 use mathlib.Core.Logic.{_⊎_, inl, inr, ⊎-elim}
-use Prim.Native.Nat.{ℕ, zero, suc, _≤_, zero-le}
+use Prim.Native.Nat.{ℕ, zero, suc, _+_, _≤_, zero-le}
 use native.Mathlib.Decide.{decLe}
+use native.Mathlib.Numerals.{add-one}
 use native.Mathlib.Omega.{arith}
 use Rattle.bounds.specs.Kinds.{Kind}
 use Rattle.bounds.specs.Squares.{lower, lowest}
@@ -58,3 +59,8 @@ module _ (K : Kind) where
   unfolding lowest
   lowest-all P f zero h = h zero zero-le
   lowest-all P f (suc n) h = lower-both P (f (suc n)) (lowest K f n) (h (suc n) (omega arith)) (lowest-all P f n (λ i e. h i (omega arith)))
+
+  -- One bound more
+  pub lowest-more : (f : ℕ → K .Bound) (n : ℕ) → lowest K f (n + 1) ≡ lower K (f (n + 1)) (lowest K f n)
+  unfolding lowest
+  lowest-more f n = rw add-one refl

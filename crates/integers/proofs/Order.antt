@@ -1,11 +1,11 @@
 -- The order of whole numbers: what a test leaves, transitivity, sums on both sides, and ranges.
 use mathlib.Core.Path.{_≡_, sym, subst}
 use mathlib.Core.Bool.{Bool, true, false, not}
-use Prim.Native.Nat.{ℕ, _+_, _≤_}
+use Prim.Native.Nat.{ℕ, _+_}
 use native.Mathlib.Decide.{map-dec}
 use native.Mathlib.Omega.{arith}
 use lib.Dec.{T}
-use lib.IntN.{ℤ, negsuc, negℤ, _+ℤ_, _-ℤ_}
+use lib.IntN.{ℤ, pos, negsuc, negℤ, _+ℤ_, _-ℤ_}
 use lib.Signed.{_≤ℤ_, _<ℤ_, leZ, leZ-yes, ltZ, ltZ-yes, ltZ-no}
 use Rattle.integers.specs.Sides.{Within}
 use Rattle.integers.proofs.Linear.{le→, lt→, →le, →lt, →eq, sum, negated}
@@ -43,13 +43,19 @@ pub +ℤ-mono : {a b c d : ℤ} → a ≤ℤ b → c ≤ℤ d → (a +ℤ c) ≤
 pub +ℤ-cancel : {a b : ℤ} (c : ℤ) → (a +ℤ c) ≤ℤ (b +ℤ c) → a ≤ℤ b
 +ℤ-cancel {a} {b} c h = →le a b (omega (arith, le→ h, sum a c, sum b c))
 
--- x - y ≤ c, said by a sum.
+-- x - y ≤ c, said by a sum, and back
 pub by-sum : (x y c : ℤ) → (x -ℤ y) ≤ℤ c → x ≤ℤ (c +ℤ y)
 by-sum x y c h = →le x (c +ℤ y) (omega (arith, le→ h, sum x (negℤ y), sum c y, negated y))
 
--- Below, by at least one
+pub of-sum : (x y c : ℤ) → x ≤ℤ (c +ℤ y) → (x -ℤ y) ≤ℤ c
+of-sum x y c h = →le (x -ℤ y) c (omega (arith, le→ h, sum x (negℤ y), sum c y, negated y))
+
+-- Below, by at least one, and back
 pub by-order : (x y : ℤ) → x <ℤ y → x ≤ℤ (negsuc 0 +ℤ y)
 by-order x y h = →le x (negsuc 0 +ℤ y) (omega (arith, lt→ h, sum (negsuc 0) y))
+
+pub of-order : (x y : ℤ) → x ≤ℤ (negsuc 0 +ℤ y) → x <ℤ y
+of-order x y h = →lt x y (omega (arith, le→ h, sum (negsuc 0) y))
 
 -- Both numbers less the same one
 pub shifted-rises : (x y z : ℤ) → x ≤ℤ (negsuc 0 +ℤ y) → (x -ℤ z) <ℤ (y -ℤ z)
@@ -62,3 +68,14 @@ shifted-holds x y z c h = →le ((x -ℤ z) -ℤ (y -ℤ z)) c
 -- The range of a sum
 pub within-sum : {m n : ℕ} {x y : ℤ} → Within m x → Within n y → Within (m + n) (x +ℤ y)
 within-sum {x = x} {y = y} W U = record { above = omega (arith, sum x y); below = omega (arith, sum x y) }
+
+-- The range of a difference
+pub within-difference : {m n : ℕ} {x y : ℤ} → Within m x → Within n y → Within (m + n) (x -ℤ y)
+within-difference {x = x} {y = y} W U = record { above = omega (arith, sum x (negℤ y), negated y); below = omega (arith, sum x (negℤ y), negated y) }
+
+-- Two numbers from -m to 0 lie no further apart than m.
+pub near-below-zero : {m : ℕ} {x y : ℤ} → x ≤ℤ pos 0 → pos 0 ≤ℤ (pos m +ℤ x) → y ≤ℤ pos 0 → pos 0 ≤ℤ (pos m +ℤ y) → Within m (x -ℤ y)
+near-below-zero {m} {x} {y} h k i j = record {
+  above = omega (arith, le→ h, le→ j, sum (pos m) y, sum x (negℤ y), negated y);
+  below = omega (arith, le→ i, le→ k, sum (pos m) x, sum x (negℤ y), negated y);
+}

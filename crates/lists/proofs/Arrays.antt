@@ -103,6 +103,16 @@ copied-turn n d l j h k =
     let s : length (take j l) ≡ j = omega (arith, length-take j l) in
     ap (λ (i : ℕ). set (exactly n d (take j l)) i (getD l j d)) (sym s) ∙ set-exactly d n (take j l) (getD l j d) (omega arith) ∙ ap (exactly n d) (sym (take-more l j d h))
 
+-- In front of what a longer one holds
+pub front-turn : {A : Type 0} (s l : List A) (j : ℕ) (d : A) → j < length s → j < length l → set (take j s ++ drop j l) j (getD s j d) ≡ take (j + 1) s ++ drop (j + 1) l
+front-turn {A} s l j d h k = rw add-one (go s l j h k)
+  where
+    go : (s l : List A) (j : ℕ) → j < length s → j < length l → set (take j s ++ drop j l) j (getD s j d) ≡ take (suc j) s ++ drop (suc j) l
+    go [] l j h k = absurd (omega arith)
+    go (x ∷ s) [] j h k = absurd (omega arith)
+    go (x ∷ s) (y ∷ l) zero h k = refl
+    go (x ∷ s) (y ∷ l) (suc j) h k = ap {B = List A} (λ r. x ∷ r) (go s l j (omega arith) (omega arith))
+
 -- ---- an array changed slot by slot
 
 module _ {A : Type 0} (f : A → A) where
