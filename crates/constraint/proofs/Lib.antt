@@ -1,9 +1,10 @@
--- Why the constraint test is right: unique answers, no overflow, and the square step by step.
+-- Why the constraint test is right: unique answers, no overflow, the square step by step, and the numbers behind a yes.
 pub mod Unique
 pub mod Decided
 pub mod Sums
 pub mod Stands
 pub mod Start
 pub mod Steps
+pub mod Numbers
 pub mod Answers
 pub mod Refusals

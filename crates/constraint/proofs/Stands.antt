@@ -1,4 +1,4 @@
--- A row that stays as it is; and a square that stands for Q: its values, a bound that can not be put in, and one that is.
+-- A row that stays as it is; and a square that stands for Q: a bound that can not be put in, and one that is.
 use mathlib.Core.Path.{_≡_, sym, ap, subst}
 use mathlib.Core.Bool.{true, false}
 use mathlib.Core.List.{List}
@@ -11,11 +11,10 @@ use Rattle.integers.specs.Sides.{over, under, Within}
 use Rattle.integers.proofs.Linear.{le→, sum}
 use Rattle.integers.proofs.Order.{≤ℤ-trans, +ℤ-mono}
 use Rattle.bounds.specs.Whole.{wholeBounds}
-use Rattle.bounds.specs.Squares.{Keeps, Closed, lower, put, values}
+use Rattle.bounds.specs.Squares.{Keeps, Closed, lower, put}
 use Rattle.bounds.proofs.Lower.{lower-right, lower-idle}
 use Rattle.bounds.proofs.Put.{put-exact, put-none, put-closed}
 use Rattle.bounds.proofs.Same.{closed-same, keeps-same}
-use Rattle.bounds.proofs.Values.{values-largest}
 use Rattle.constraint.specs.Square.{places, far, entry, Sound, Stands}
 
 -- A row of a sound square to which nothing lower comes at q.
@@ -28,10 +27,6 @@ pub stands-as : {Q R : (ℕ → ℤ) → Type 0} {t : List (List ℤ)} → Stand
 stands-as S f = record { sound = S .sound; exact = λ v. (λ h. f v .0 (S .exact v .0 h), λ h. S .exact v .1 (f v .1 h)) }
 
 module _ (Q : (ℕ → ℤ) → Type 0) (t : List (List ℤ)) (S : Stands Q t) where
-  -- Values exist.
-  pub stands-values : (v : ℕ → ℤ) × Q v
-  stands-values = (values wholeBounds 16 (entry t), S .exact _ .0 (values-largest wholeBounds 16 (entry t) (S .sound .closed) .keeps))
-
   module _ (p q : ℕ) (c : ℤ) (hp : p < places) (hq : q < places) where
     -- A bound that closes a chain below zero is kept by no values.
     pub stands-none : ltZ (c +ℤ entry t q p) (pos 0) ≡ true → (v : ℕ → ℤ) → Q v → ¬ Keeps wholeBounds v p q c

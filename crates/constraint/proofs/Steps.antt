@@ -1,13 +1,17 @@
 -- The square, step by step: one constant more in order, one atom more.
-use mathlib.Core.Path.{_≡_}
+use mathlib.Core.Path.{_≡_, subst}
 use mathlib.Core.Bool.{false}
-use mathlib.Core.List.{List}
+use mathlib.Core.List.{List, List·Memᴰ}
 use Prim.Native.Nat.{ℕ, _+_, _<_}
+use native.Mathlib.Decide.{decLt}
 use native.Mathlib.Omega.{arith}
+use lib.ListN.{length, take, List·getD-eq-default}
 use lib.IntN.{ℤ, pos, _+ℤ_}
 use lib.Signed.{ltZ}
 use borrow.Author.Count.{below-more}
 use Rattle.basis.specs.declared.Atom.{Atom}
+use Rattle.basis.specs.Atoms.{noAtom, Proper}
+use Rattle.lists.proofs.Members.{member-at}
 use Rattle.integers.specs.Sides.{Within}
 use Rattle.integers.proofs.Linear.{le→}
 use Rattle.bounds.specs.Whole.{wholeBounds}
@@ -20,6 +24,13 @@ use Rattle.constraint.proofs.Stands.{stands-as, stands-put}
 pub atoms-none : (constants : ℕ) (atoms : List Atom) (t : List (List ℤ)) → Stands (Ordered constants) t → Stands (Posed constants atoms 0) t
 atoms-none constants atoms t S = stands-as S (λ v. (λ h. (h, λ j a. absurd (omega arith)), λ h. h .0))
 
+-- A proper atom is no blank one, so it stands in the list.
+in-list : (constants k : ℕ) (atoms : List Atom) → Proper constants (atomAt atoms k) → k < length atoms
+in-list constants k atoms h = elim (decLt k (length atoms)) [ yes e ↦ e | no e ↦ absurd (blank (subst (Proper constants) (List·getD-eq-default atoms noAtom (omega arith)) h)) ]
+  where
+    blank : Proper constants noAtom → ⊥
+    blank p = omega (arith, p .some-place)
+
 module _ (constants count : ℕ) (atoms : List Atom) (A : Accepted constants count atoms) (k : ℕ) (hk : k < count) where
   pub place-p : atomAt atoms k .p < places
   place-p = omega (arith, A .proper k hk .p-place, A .few-enough .few-constants)
@@ -29,6 +40,9 @@ module _ (constants count : ℕ) (atoms : List Atom) (A : Accepted constants cou
 
   pub within-c : Within mostBound (atomAt atoms k .c)
   within-c = record { above = omega (arith, le→ (A .proper k hk .c-range .high)); below = omega (arith, le→ (A .proper k hk .c-range .low)) }
+
+  pub among : List·Memᴰ (atomAt atoms k) (take count atoms)
+  among = member-at noAtom atoms count k hk (in-list constants k atoms (A .proper k hk))
 
   pub atoms-more : (t r : List (List ℤ)) → Stands (Posed constants atoms k) t →
       ((i j : ℕ) → i < places → j < places → entry r i j ≡ put wholeBounds (entry t) (atomAt atoms k .p) (atomAt atoms k .q) (atomAt atoms k .c) i j) →

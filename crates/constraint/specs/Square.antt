@@ -1,6 +1,7 @@
 -- The square of 17 by 17 bounds that the test works on, what the private functions do to it, and that no sum of bounds overflows.
 -- The promise is in Test and needs nothing of this.
-use mathlib.Core.Bool.{cond, _&&_}
+use mathlib.Core.Path.{_≡_}
+use mathlib.Core.Bool.{true, false, cond, _&&_}
 use mathlib.Core.List.{List, []}
 use mathlib.Core.Logic.{_↔_}
 use Prim.Native.Nat.{ℕ, zero, suc, _+_, _-_, _*_, _≤_, _<_}
@@ -10,11 +11,17 @@ use lib.IntN.{ℤ, pos, negsuc, _+ℤ_, _-ℤ_}
 use mir.Syntax.{w64}
 use mir.Val.{SFits}
 use Rattle.basis.specs.declared.Atom.{Atom}
-use Rattle.basis.specs.Atoms.{Proper}
+use Rattle.basis.specs.declared.Witness.{Witness}
+use Rattle.basis.specs.Atoms.{Possible, Proper}
+use Rattle.basis.specs.Numbers.{whole}
+use Rattle.lists.specs.Tests.{Decides}
 use Rattle.integers.specs.Sides.{Within}
 use Rattle.bounds.specs.Whole.{wholeBounds}
 use Rattle.bounds.specs.Squares.{Keeps, KeepsAll, Closed}
-use Rattle.constraint.specs.Test.{atomAt}
+use Rattle.constraint.specs.Test.{NumbersIn, atomAt}
+use Rattle.constraint.specs.declared.Answer.the-variants.{Refused}
+use Rattle.constraint.specs.declared.Finding.{Finding}
+use Rattle.constraint.specs.Witnesses.{noNumbers}
 
 -- "a table of bounds between every two of 17 places (16 constants and zero)"
 abbrev pub places : ℕ
@@ -79,6 +86,16 @@ Meets atoms v k = Keeps wholeBounds v (atomAt atoms k .p) (atomAt atoms k .q) (a
 -- The order and the first k atoms.
 abbrev pub Posed : ℕ → List Atom → ℕ → (ℕ → ℤ) → Type 0
 Posed constants atoms k v = Ordered constants v × ((j : ℕ) → j < k → Meets atoms v j)
+
+-- What is said of the order and the atoms: numbers are given exactly if they are possible, and are those behind the yes.
+pub record Keeping (constants : ℕ) (atoms : List Atom) (w : Witness) : Type 0 where
+  pub decides : Decides (Possible whole constants atoms) (w .given)
+  pub shown : w .given ≡ true → NumbersIn constants atoms (w .numbers)
+  pub blank : w .given ≡ false → w .numbers ≡ noNumbers
+
+-- A refusal, with no numbers beside it
+abbrev pub refusedFinding : ℕ → ℕ → Finding
+refusedFinding number place = record { answer = Refused number place; numbers = noNumbers }
 
 -- 0 where the first `count` atoms are proper, and else the number of the first that is not.
 abbrev pub FirstImproper : ℕ → ℕ → List Atom → ℕ → Type 0

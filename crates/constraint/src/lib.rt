@@ -3,23 +3,25 @@
 ghost use mathlib.Core.Path.{_≡_};
 ghost use Prim.Native.Nat.{ℕ, _<_, _≤_};
 ghost use lib.ListN.{take};
-ghost use lib.IntN.{pos, _+ℤ_};
+ghost use lib.IntN.{pos, _+ℤ_, _-ℤ_};
 ghost use lib.Signed.{ltZ};
-ghost use Rattle.basis.specs.Numbers.{whole};
 ghost use Rattle.basis.specs.Limits.{mostConstants, mostTested};
-ghost use Rattle.basis.specs.Atoms.{InRange, Proper, Possible};
+ghost use Rattle.basis.specs.Atoms.{InRange, Proper};
+ghost use Rattle.basis.specs.Choices.{lessZero};
 ghost use Rattle.lists.specs.Tests.{Decides};
 ghost use Rattle.integers.specs.Sides.{Within};
 ghost use Rattle.bounds.specs.Whole.{wholeBounds};
-ghost use Rattle.bounds.specs.Squares.{lower};
+ghost use Rattle.bounds.specs.Squares.{lower, lowest, values};
 ghost use Rattle.constraint.specs.Test.{Accepted, Says};
-ghost use Rattle.constraint.specs.Square.{places, mostBound, far, mostChain, at, Stands, Ordered, standAfter, standBefore, byOrder, FirstImproper};
+ghost use Rattle.constraint.specs.Square.{places, mostBound, refusedFinding, far, mostChain, at, entry, Keeping, Sound, Stands, Ordered, standAfter, standBefore, byOrder, FirstImproper};
+ghost use Rattle.constraint.specs.Witnesses.{packedNumbers};
 use basis::ABOVE_LIMIT;
 use basis::Atom;
 use basis::MOST_C;
 use basis::MOST_CONSTANTS;
 use basis::MOST_TESTED;
 use basis::OUT_OF_RANGE;
+use basis::Witness;
 
 // The places of the square: zero and the constants.
 const PLACES: usize = 17;
@@ -32,6 +34,13 @@ pub enum Answer {
     Yes,
     No,
     Refused { number: u8, place: u8 },
+}
+
+// What the constraint test finds: its answer, and beside a yes the numbers behind it, one for each constant in order and 0 past them; beside
+// any other answer all are 0, since no enum holds an array.
+pub struct Finding {
+    pub answer: Answer,
+    pub numbers: [i32; MOST_CONSTANTS],
 }
 
 // The lower of `old` and the bound that goes by `start` and then by `on`.
@@ -142,11 +151,53 @@ fn below_zero(c: i64, back: i64) -> bool
     c + back < 0
 }
 
-// Whether the order and the first `count` atoms can be kept. Each atom is put in: a row to which nothing lower comes at q stays as it is.
-// The square is changed in place, so the loop over its rows stands within that over the atoms.
-fn kept(constants: usize, count: usize, atoms: [Atom; MOST_TESTED]) -> bool
+// The lowest of the row's first n + 1 bounds
+fn lowest_of(row: [i64; PLACES], n: usize) -> i64
+    requires { ⌜ n < places ⌝ }
+    ensures { λ r. ⌜ r ≡ lowest wholeBounds (at row) n ⌝ }
+{
+    let mut low = row[0];
+    let mut j = 0;
+    while j < n {
+        j += 1;
+        let new = row[j];
+        if new < low {
+            low = new;
+        }
+    }
+    low
+}
+
+// A constant's number: its place's value less zero's
+fn less_zero(own: i64, zeroth: i64) -> i32
+    requires { ⌜ Within far own × Within far zeroth ⌝ }
+    ensures { λ r. ⌜ r ≡ own -ℤ zeroth ⌝ }
+{
+    (own - zeroth) as i32
+}
+
+// The numbers behind a yes: a place's value is the lowest bound of its row among zero and the constants.
+fn numbers_of(constants: usize, t: [[i64; PLACES]; PLACES]) -> [i32; MOST_CONSTANTS]
+    requires { ⌜ (constants ≤ mostConstants) × Sound t ⌝ }
+    ensures { λ r. ⌜ r ≡ packedNumbers (lessZero constants (values wholeBounds constants (entry t))) ⌝ }
+{
+    let mut numbers = [0i32; MOST_CONSTANTS];
+    let first = t[0];
+    let zeroth = lowest_of(first, constants);
+    let mut k = 0;
+    while k < constants {
+        let row = t[k + 1];
+        numbers[k] = less_zero(lowest_of(row, constants), zeroth);
+        k += 1;
+    }
+    numbers
+}
+
+// Whether the order and the first `count` atoms can be kept, and the numbers behind it. Each atom is put in: a row to which nothing lower
+// comes at q stays as it is. The square is changed in place, so the loop over its rows stands within that over the atoms.
+fn kept(constants: usize, count: usize, atoms: [Atom; MOST_TESTED]) -> Witness
     requires { ⌜ Accepted constants count atoms ⌝ }
-    ensures { λ r. ⌜ Decides (Possible whole constants (take count atoms)) r ⌝ }
+    ensures { λ r. ⌜ Keeping constants (take count atoms) r ⌝ }
 {
     let mut t = ordered(constants);
     let mut k = 0;
@@ -157,7 +208,10 @@ fn kept(constants: usize, count: usize, atoms: [Atom; MOST_TESTED]) -> bool
         let c = widen(a.c);
         let back = t[q][p];
         if below_zero(c, back) {
-            return false;
+            return Witness {
+                given: false,
+                numbers: [0i32; MOST_CONSTANTS],
+            };
         }
         if c < t[p][q] {
             let via = t[q];
@@ -173,7 +227,11 @@ fn kept(constants: usize, count: usize, atoms: [Atom; MOST_TESTED]) -> bool
         }
         k += 1;
     }
-    true
+    let numbers = numbers_of(constants, t);
+    Witness {
+        given: true,
+        numbers: numbers,
+    }
 }
 
 // Whether c is from -1,000,000 to 1,000,000.
@@ -223,34 +281,45 @@ fn first_improper(constants: usize, count: usize, atoms: [Atom; MOST_TESTED]) ->
     0
 }
 
-// The constraint test: whether whole numbers exist for the constants that keep their order and make the first `count` atoms true.
-pub fn possible(constants: u8, count: u8, atoms: [Atom; MOST_TESTED]) -> Answer
+// Refused: there are no numbers.
+fn refused(number: u8, place: u8) -> Finding
+    ensures { λ r. ⌜ r ≡ refusedFinding number place ⌝ }
+{
+    Finding {
+        answer: Answer::Refused {
+            number: number,
+            place: place,
+        },
+        numbers: [0i32; MOST_CONSTANTS],
+    }
+}
+
+// The constraint test: whether whole numbers exist for the constants that keep their order and make the first `count` atoms true, and which.
+pub fn possible(constants: u8, count: u8, atoms: [Atom; MOST_TESTED]) -> Finding
     ensures { λ r. ⌜ Says constants count atoms r ⌝ }
 {
     let n = constants as usize;
     let m = count as usize;
     if MOST_CONSTANTS < n {
-        return Answer::Refused {
-            number: ABOVE_LIMIT,
-            place: 0,
-        };
+        return refused(ABOVE_LIMIT, 0);
     }
     if MOST_TESTED < m {
-        return Answer::Refused {
-            number: ABOVE_LIMIT,
-            place: 0,
-        };
+        return refused(ABOVE_LIMIT, 0);
     }
     let bad = first_improper(n, m, atoms);
     if 0 < bad {
-        return Answer::Refused {
-            number: OUT_OF_RANGE,
-            place: bad as u8,
+        return refused(OUT_OF_RANGE, bad as u8);
+    }
+    let witness = kept(n, m, atoms);
+    let numbers = witness.numbers;
+    if witness.given {
+        return Finding {
+            answer: Answer::Yes,
+            numbers: numbers,
         };
     }
-    if kept(n, m, atoms) {
-        Answer::Yes
-    } else {
-        Answer::No
+    Finding {
+        answer: Answer::No,
+        numbers: numbers,
     }
 }

@@ -1,12 +1,16 @@
-// Runs the constraint test on a table of cases: standard input has a case to a line, standard output its name and the answer.
+// Runs the constraint test on a table of cases: standard input has a case to a line, standard output its name and the answer,
+// with a yes the constants' numbers behind it.
 // A line is a name, the constants, the count, and then atoms, each as four numbers: how often, p, q, c. A line that starts with # is passed over.
 ghost use mathlib.Core.Path.{_≡_};
 ghost use lib.ListN.{length};
 ghost use Rattle.basis.specs.Limits.{mostTested};
 use basis::Atom;
+use basis::MOST_CONSTANTS;
 use basis::MOST_TESTED;
 use constraint::Answer;
+use constraint::Finding;
 use libc::STDOUT_FILENO;
+use text::put_signed;
 
 // How far a line is read: what it has told, and the number that is being read.
 struct Line {
@@ -129,22 +133,40 @@ fn parted(line: Line) -> Line {
     next
 }
 
-fn print_answer(answer: Answer) {
+// A number with its sign, and a space before it.
+fn print_number(n: i32) {
+    let mut word = [b' '; 12];
+    let end = put_signed(&mut word, 1, n);
+    io::write_all(STDOUT_FILENO, &word[..end]);
+}
+
+fn print_numbers(constants: u8, numbers: [i32; MOST_CONSTANTS]) {
+    for j in 0..MOST_CONSTANTS {
+        if j < constants as usize {
+            print_number(numbers[j]);
+        }
+    }
+}
+
+fn print_finding(constants: u8, found: Finding) {
+    let answer = found.answer;
+    let numbers = found.numbers;
     match answer {
         Answer::Yes => {
-            io::write_all(STDOUT_FILENO, b" yes\n");
+            io::write_all(STDOUT_FILENO, b" yes");
+            print_numbers(constants, numbers);
         }
         Answer::No => {
-            io::write_all(STDOUT_FILENO, b" no\n");
+            io::write_all(STDOUT_FILENO, b" no");
         }
         Answer::Refused { number, place } => {
             io::write_all(STDOUT_FILENO, b" refused ");
             io::print_decimal(STDOUT_FILENO, number as u64);
             io::write_all(STDOUT_FILENO, b" at ");
             io::print_decimal(STDOUT_FILENO, place as u64);
-            io::write_all(STDOUT_FILENO, b"\n");
         }
     }
+    io::write_all(STDOUT_FILENO, b"\n");
 }
 
 // One byte more of the line.
@@ -154,7 +176,8 @@ fn read_byte(line: Line, byte: u8) -> Line {
             return start();
         }
         let whole = parted(line);
-        print_answer(constraint::possible(whole.constants, whole.count, atoms_of(whole)));
+        let found = constraint::possible(whole.constants, whole.count, atoms_of(whole));
+        print_finding(whole.constants, found);
         return start();
     }
     if byte == b' ' {

@@ -1,2 +1,2 @@
--- The exported test's number is unique.
+-- The exported test's number, and the numbers that it notes, are unique.
 pub mod Unique

@@ -2,11 +2,12 @@
 -- The helpers say that what the calls and tests are handed is the atom's and the square's.
 use mathlib.Core.List.{List, []}
 use mathlib.Core.Path.{_≡_, sym, ap, ap₂, _∙_, subst}
+use mathlib.Core.Bool.{true}
 use mathlib.Core.Logic.{⊎-elim}
 use Prim.Native.Nat.{ℕ, _-_, _≤_, _<_}
 use native.Mathlib.Omega.{arith}
 use lib.Dec.{lit<}
-use lib.ListN.{length, getD}
+use lib.ListN.{length, getD, take}
 use lib.IntN.{ℤ, pos, _+ℤ_}
 use lib.Signed.{ltZ}
 use mir.Syntax.{w64, w32}
@@ -14,6 +15,7 @@ use mir.Val.{toZ, ofZ}
 use mir.Facts.{toZ-ofZ}
 use borrow.Author.Needs.{needs, sfits-of}
 use Rattle.basis.specs.declared.Atom.{Atom}
+use Rattle.lists.specs.Arrays.{exactly}
 use Rattle.lists.specs.Walk.{Upto}
 use Rattle.lists.proofs.Walk.{upto-none, upto-set, upto-same}
 use Rattle.integers.specs.Sides.{Within}
@@ -23,7 +25,7 @@ use Rattle.bounds.specs.Whole.{wholeBounds}
 use Rattle.bounds.specs.Squares.{lower, put}
 use Rattle.bounds.proofs.Put.{put-had}
 use Rattle.constraint.specs.Test.{Accepted, atomAt}
-use Rattle.constraint.specs.Square.{places, mostBound, far, mostChain, at, entry, Sound, Stands, Posed}
+use Rattle.constraint.specs.Square.{places, mostBound, far, mostChain, at, entry, Keeping, Sound, Stands, Posed}
 use Rattle.constraint.proofs.Stands.{row-stays}
 use Rattle.constraint.proofs.Steps.{atoms-none, atoms-more, place-p, place-q, within-c}
 use Rattle.constraint.proofs.Answers.{answer-yes, answer-no}
@@ -99,6 +101,7 @@ below-zero-requires : tie.Need-below-zero-requires Inv-loop2 μ-loop2 Inv-loop �
 below-zero-requires c κs = (c-within (c .before), back-within (c .before))
 
 returns : tie.Need-returns Inv-loop2 μ-loop2 Inv-loop μ-loop
+unfolding exactly
 returns c = let w = c .before .before .before in
     answer-no _ _ _ (turn w .loop .inv .1) (turn w .loop .k) (search needs) (turn w .loop .t) (turn w .loop .inv .2) (sym (tells (c .before)) ∙ c .if1 .taken)
 
@@ -208,9 +211,19 @@ loop-again c = let w = c .before .before .before .before .before in
       ⊎-elim (λ h. rw (h .4) (h .2 .inv .2 .long ∙ s .loop .inv .3)) (λ h. rw (h .1) (s .loop .inv .3)) (c .if2 .came),
     )
 
+-- Every atom is put in.
+all-in : (c : tie.After-loop Inv-loop2 μ-loop2 Inv-loop μ-loop) → let a = c .before .before .before .args in Stands (Posed (a .constants) (a .t3) (a .count)) (c .before .loop .t)
+all-in c = let a = c .before .before .before .args in
+    let e : c .before .loop .k ≡ a .count = omega arith in
+    subst (λ (k : ℕ). Stands (Posed (a .constants) (a .t3) k) (c .before .loop .t)) e (c .before .loop .inv .2)
+
+numbers-of-requires : tie.Need-numbers-of-requires Inv-loop2 μ-loop2 Inv-loop μ-loop
+numbers-of-requires c κs = (c .before .loop .inv .1 .few-enough .few-constants, c .before .loop .inv .2 .sound)
+
 returns-2 : tie.Need-returns-2 Inv-loop2 μ-loop2 Inv-loop μ-loop
-returns-2 c = let e : c .before .loop .k ≡ c .before .before .before .args .count = omega arith in
-    answer-yes _ _ _ (c .before .loop .t) (subst (λ (k : ℕ). Stands (Posed (c .before .before .before .args .constants) (c .before .before .before .args .t3) k) (c .before .loop .t)) e (c .before .loop .inv .2))
+returns-2 c = let a = c .before .before .before .before .args in
+    subst (λ (l : List ℤ). Keeping (a .constants) (take (a .count) (a .t3)) (record { given = true; numbers = l })) (sym (c .numbers-of .ensures))
+    (answer-yes _ _ _ (c .before .before .loop .inv .1) (c .before .before .loop .t) (all-in (c .before)))
 
 pub kept-spec : {M : Type 1} → statement M
 kept-spec =
@@ -260,4 +273,5 @@ kept-spec =
     (λ c. search needs)
     (λ c. search needs)
     loop-again
+    numbers-of-requires
     returns-2)
