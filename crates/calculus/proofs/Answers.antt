@@ -19,12 +19,12 @@ use Rattle.lists.proofs.Tests.{and-i, and-l, and-r, not-eqb, or-l, or-r}
 use Rattle.lists.specs.Lists.{allOf, anyOf}
 use Rattle.calculus.specs.Answers.{AcceptedExactlyIfAllowed, AnswerUnique, NumberInTable, TriedInRisingOrder, rising}
 use Rattle.calculus.specs.Tests.{allFalse, firstFailing, othersFalse}
-use Rattle.calculus.proofs.Computed.{answer, asks, notFalsePlace, question}
+use Rattle.calculus.proofs.Computed.{answer, asks, notFalsePlace}
 use Rattle.calculus.specs.Checks.{Check, firstRefusal}
 use Rattle.calculus.specs.Clauses.{complement, ground, noLiteral, sameLiteral}
 use Rattle.calculus.specs.Conditions.{Allowed, Condition, EachHolds, FirstLacking, FirstNotFalse, Judged, NamesNotFalse, conditions}
 use Rattle.calculus.specs.OnTrail.{False}
-use Rattle.calculus.specs.Rules.{Answer, next}
+use Rattle.calculus.specs.Rules.{Answer, next, question}
 use Rattle.calculus.specs.States.{Backtrack, Conflict, Decide, Factorize, Grow, Propagate, Resolve, Skip, State, Step, Unknown, clauseAt, clauses}
 use Rattle.calculus.specs.Trails.{Trail, isFalse}
 use Rattle.calculus.proofs.Asks.{AllOk, all-say, first-lacking, matched}
@@ -218,7 +218,7 @@ module _ (N : Numbers) where
       (λ e. each-holds accepted (a .number) (conditions N s x) (all-rise N s x) e (j .first-lacking), λ h. none-lacking (a .number) (conditions N s x) h (j .first-lacking))
 
   -- An allowed step's atoms are possible, or it asks for none.
-  asked-possible : (s : State) (x : Step) → Allowed N s x → Possible N (s .constants) (question s x)
+  pub asked-possible : (s : State) (x : Step) → Allowed N s x → Possible N (s .constants) (question s x)
   asked-possible s (Propagate c l τ) h = h .1 .1 .1 .1 .1 .0
   asked-possible s (Decide c l g τ) h = possible-none N (s .constants)
   asked-possible s (Conflict c τ) h = h .1 .1 .1 .1 .0

@@ -20,10 +20,10 @@ use Rattle.calculus.specs.Checks.{Check, _or_, between, firstRefusal}
 use Rattle.calculus.specs.Class.{Limited, withinLimits}
 use Rattle.calculus.specs.Clauses.{Clause, Instanced, complement, ground, sameLiteral}
 use Rattle.calculus.specs.Tests.{allFalse, clauseExists, complementInConflict, instanceFits, lastIsPropagated, literalExists, nonempty, othersFalse}
-use Rattle.calculus.proofs.Computed.{asks, question}
+use Rattle.calculus.proofs.Computed.{asks}
 use Rattle.calculus.specs.Conditions.{ComplementNotIn, Condition, EachHolds, FirstLacking, InstanceOf, LastPropagated, Names, _otherwise_, conditions, literalAt}
 use Rattle.calculus.specs.OnTrail.{False, On, Undefined}
-use Rattle.calculus.specs.Rules.{backLevel, decidedLiteral, isOne, lastLiteral, literalInstance, next, otherInstances}
+use Rattle.calculus.specs.Rules.{backLevel, decidedLiteral, isOne, lastLiteral, literalInstance, next, otherInstances, question}
 use Rattle.calculus.specs.States.{Backtrack, Conflict, Decide, Factorize, Grow, Propagate, Resolve, Skip, State, Step, Unknown, clauseAt, clauses, conflictOf, stands}
 use Rattle.calculus.specs.Trails.{Trail, background, decided, foreground, isFalse, levelOf, onTrail, propagated, undefined}
 use Rattle.calculus.proofs.Merged.{sameLiteral→eq}

@@ -17,12 +17,13 @@ use Rattle.lists.proofs.Members.{allOf-out, anyOf-out}
 use Rattle.lists.proofs.Tests.{and-l, and-r, holds}
 use Rattle.lists.specs.Lists.{allOf, anyOf, upFrom}
 use Rattle.calculus.specs.Clauses.{sameAtom}
-use Rattle.calculus.proofs.Computed.{answer, question}
+use Rattle.calculus.proofs.Computed.{answer}
 use Rattle.calculus.specs.Conditions.{Judged}
 use Rattle.calculus.specs.States.{State, Step}
 use Rattle.calculus.proofs.Answers.{judged-by}
 use Rattle.calculus.proofs.Merged.{sameAtom→eq}
 use Rattle.integers.proofs.Linear.{le→, lt→, negated, sum, →le}
+use Rattle.calculus.specs.Rules.{question}
 
 -- ---- chains of whole numbers
 

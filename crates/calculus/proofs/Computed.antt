@@ -1,35 +1,20 @@
 -- The rules as checks that compute, where a Boolean tells what is possible. What they say is what specs/Conditions.antt says in the paper's
 -- words: Asks.antt and Answers.antt prove it.
-use mathlib.Core.List.{List, [], _∷_, _++_}
+use mathlib.Core.List.{List, [], _∷_}
 use mathlib.Core.Bool.{Bool, false, not, _&&_, _||_, cond}
 use Prim.Native.Nat.{ℕ, zero, suc, _+_, _-_}
 use lib.Dec.{eqb, leb, ltb}
 use lib.ListN.{length, getD}
-use Rattle.basis.specs.declared.Atom.{Atom}
 use Rattle.basis.specs.Limits.{mostVariables, mostLearned, mostConstants, mostEntries}
 use Rattle.basis.specs.Refusals.{accepted, aboveLimit, outOfRange, unknownRule, wrongMoment, noSuch, alreadyDefined, notFalse, notPossible, noEntry, wrongLiteral, notAbove, keptNotPossible, noRoom}
 use Rattle.lists.specs.Lists.{anyOf}
 use Rattle.calculus.specs.Checks.{Check, _or_, firstRefusal}
 use Rattle.calculus.specs.Class.{withinLimits}
-use Rattle.calculus.specs.Clauses.{noLiteral, sameLiteral, ground, groundAtoms, complement}
+use Rattle.calculus.specs.Clauses.{noLiteral, sameLiteral, ground, complement}
 use Rattle.calculus.specs.Rules.{Answer, backLevel, decidedLiteral, isOne, lastLiteral, literalInstance, next, otherInstances}
 use Rattle.calculus.specs.States.{State, Step, Propagate, Decide, Conflict, Resolve, Factorize, Skip, Backtrack, Grow, Unknown, clauses, clauseAt, stands, conflictOf}
 use Rattle.calculus.specs.Tests.{allFalse, clauseExists, complementInConflict, firstFailing, instanceFits, lastIsPropagated, literalExists, nonempty, othersFalse}
-use Rattle.calculus.specs.Trails.{undefined, isFalse, levelOf, cut, atomsOf}
-
--- The atoms that a rule asks to be possible together: those of the trail, or of its kept part, and the clause's
-abbrev pub question : State → Step → List Atom
-question s (Propagate c l τ) = atomsOf (s .trail) ++ groundAtoms τ (clauseAt (clauses s) c .atoms)
-question s (Decide c l g τ) = []
-question s (Conflict c τ) = atomsOf (s .trail) ++ groundAtoms τ (clauseAt (clauses s) c .atoms)
-question s (Resolve l) = []
-question s (Factorize i j) = []
-question s Skip = []
-question s (Backtrack l) =
-    let N = conflictOf (s .conflict) in
-    atomsOf (cut (backLevel N l (s .trail)) (s .trail)) ++ groundAtoms (N .instance) (N .clause .atoms)
-question s (Grow n) = []
-question s (Unknown r) = []
+use Rattle.calculus.specs.Trails.{undefined, isFalse, levelOf}
 
 -- What a step asks; `possible` tells whether its question's atoms are.
 abbrev pub asks : Bool → State → Step → List Check

@@ -13,8 +13,8 @@ use Rattle.lists.proofs.Tests.{and-l, and-r}
 use Rattle.calculus.specs.Admission.{admissionRefusal}
 use Rattle.calculus.specs.Examples.{Admits, Example, Goes, LastReason, No, Runs, Shown, Tried, TwelveExamples, Yes, over, then}
 use Rattle.calculus.specs.Merging.{closeUp, factored, merge, reason, resolvent}
-use Rattle.calculus.proofs.Computed.{answer, question}
-use Rattle.calculus.specs.Rules.{lastReason}
+use Rattle.calculus.proofs.Computed.{answer}
+use Rattle.calculus.specs.Rules.{lastReason, question}
 use Rattle.calculus.specs.States.{State, clauses}
 use Rattle.calculus.proofs.Admitting.{admitted-exactly}
 use Rattle.calculus.proofs.Certificates.{closes, impossible-by, judged-yes, keeps, possible-by}

@@ -19,5 +19,6 @@ pub mod Sound
 pub mod Merges
 pub mod Closed
 pub mod Certificates
+pub mod Handing
 pub mod Examples
 pub mod FalseTools

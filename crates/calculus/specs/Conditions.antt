@@ -2,7 +2,7 @@
 -- answer to a step. The paper's sections "The rules" and "Refusal numbers".
 use mathlib.Core.Path.{_≡_}
 use mathlib.Core.Logic.{_⊎_}
-use mathlib.Core.List.{List, List·Memᴰ, [], _++_, _∷_}
+use mathlib.Core.List.{List, List·Memᴰ, [], _∷_}
 use mathlib.Core.Option.{none, some}
 use Prim.Native.Nat.{_+_, _-_, _<_, _≤_, zero, ℕ}
 use lib.ListN.{getD, length}
@@ -12,11 +12,11 @@ use Rattle.basis.specs.Numbers.{Numbers}
 use Rattle.basis.specs.Refusals.{aboveLimit, accepted, alreadyDefined, keptNotPossible, noEntry, noRoom, noSuch, notAbove, notFalse, notPossible, outOfRange, unknownRule, wrongLiteral, wrongMoment}
 use Rattle.basis.specs.declared.Literal.{Literal}
 use Rattle.calculus.specs.Class.{Limited}
-use Rattle.calculus.specs.Clauses.{Clause, Instanced, complement, ground, groundAtoms, noLiteral}
+use Rattle.calculus.specs.Clauses.{Clause, Instanced, complement, ground, noLiteral}
 use Rattle.calculus.specs.OnTrail.{False, Undefined}
-use Rattle.calculus.specs.Rules.{Answer, backLevel, decidedLiteral, isOne, lastLiteral, literalInstance, next, otherInstances}
+use Rattle.calculus.specs.Rules.{Answer, backLevel, decidedLiteral, isOne, lastLiteral, literalInstance, next, otherInstances, question}
 use Rattle.calculus.specs.States.{Backtrack, Conflict, Decide, Factorize, Grow, Propagate, Resolve, Skip, State, Step, Unknown, clauseAt, clauses, conflictOf}
-use Rattle.calculus.specs.Trails.{Origin, Trail, atomsOf, cut, foreground, levelOf, propagated}
+use Rattle.calculus.specs.Trails.{Origin, Trail, foreground, levelOf, propagated}
 
 -- ---- what the steps name
 
@@ -75,7 +75,7 @@ conditions N s (Propagate c l τ) =
     -- "a literal that must be false is not"
     ((m : Literal) → List·Memᴰ m (C .literals) → ¬ (ground τ m ≡ L) → False (s .trail) (ground τ m)) otherwise notFalse ∷
     -- "atoms not possible"
-    Possible N (s .constants) (atomsOf (s .trail) ++ groundAtoms τ (C .atoms)) otherwise notPossible ∷
+    Possible N (s .constants) (question s (Propagate c l τ)) otherwise notPossible ∷
     -- "no room: .. trail"
     (length (next s (Propagate c l τ) .trail) ≤ mostEntries) otherwise noRoom ∷ []
 -- "2 Decide (clause, literal, sign, instance). No conflict. The atom of the literal, with the sign given, is undefined."
@@ -95,7 +95,7 @@ conditions N s (Conflict c τ) =
     (s .conflict ≡ none) otherwise wrongMoment ∷
     (Names (clauses s) c × InstanceOf (s .constants) C τ) otherwise noSuch ∷
     ((m : Literal) → List·Memᴰ m (C .literals) → False (s .trail) (ground τ m)) otherwise notFalse ∷
-    Possible N (s .constants) (atomsOf (s .trail) ++ groundAtoms τ (C .atoms)) otherwise notPossible ∷ []
+    Possible N (s .constants) (question s (Conflict c τ)) otherwise notPossible ∷ []
 -- "4 Resolve (literal L'). The last entry is a propagated literal, the complement of L'."
 conditions N s (Resolve l) =
     let K = conflictOf (s .conflict) in
@@ -137,7 +137,7 @@ conditions N s (Backtrack l) =
     -- "L's level not above i"
     (i < levelOf (literalInstance K l) (s .trail)) otherwise notAbove ∷
     -- "kept and conflict atoms not possible"
-    Possible N (s .constants) (atomsOf (cut i (s .trail)) ++ groundAtoms (K .instance) (K .clause .atoms)) otherwise keptNotPossible ∷
+    Possible N (s .constants) (question s (Backtrack l)) otherwise keptNotPossible ∷
     -- "no room: .. trail, learned clauses"
     ((length (next s (Backtrack l) .trail) ≤ mostEntries) × (length (s .learned) < mostLearned)) otherwise noRoom ∷ []
 -- "8 Grow (count). No conflict."

@@ -7,6 +7,7 @@ pub mod Class
 pub mod States
 pub mod Admission
 pub mod Rules
+pub mod Handing
 pub mod OnTrail
 pub mod Conditions
 pub mod Runs

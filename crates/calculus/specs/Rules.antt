@@ -6,9 +6,10 @@ use Prim.Native.Nat.{ℕ, zero, suc, _+_, _-_}
 use lib.Dec.{eqb}
 use lib.ListN.{length, getD}
 use Rattle.lists.specs.Lists.{without}
+use Rattle.basis.specs.declared.Atom.{Atom}
 use Rattle.basis.specs.declared.Literal.{Literal}
 use Rattle.calculus.specs.Clauses.{Clause, Instanced, noLiteral, noInstanced, under, ground, groundAtoms}
-use Rattle.calculus.specs.Trails.{Origin, propagated, decided, foreground, background, Trail, isDecision, largestLevel, cut, appendAtoms}
+use Rattle.calculus.specs.Trails.{Origin, propagated, decided, foreground, background, Trail, atomsOf, isDecision, largestLevel, cut, appendAtoms}
 use Rattle.calculus.specs.Merging.{Reason, reason, resolvent, factored}
 use Rattle.calculus.specs.States.{State, Step, Propagate, Decide, Conflict, Resolve, Factorize, Skip, Backtrack, Grow, Unknown, clauses, clauseAt, conflictOf, updated}
 
@@ -44,6 +45,20 @@ otherInstances N l = map (ground (N .instance)) (without (l - 1) (N .clause .lit
 -- "i is the largest level in D, 0 if D is empty."
 abbrev pub backLevel : Instanced → ℕ → Trail → ℕ
 backLevel N l t = largestLevel t (otherInstances N l)
+
+-- The atoms that a rule asks to be possible together: those of the trail, or of its kept part, and the clause's
+abbrev pub question : State → Step → List Atom
+question s (Propagate c l τ) = atomsOf (s .trail) ++ groundAtoms τ (clauseAt (clauses s) c .atoms)
+question s (Decide c l g τ) = []
+question s (Conflict c τ) = atomsOf (s .trail) ++ groundAtoms τ (clauseAt (clauses s) c .atoms)
+question s (Resolve l) = []
+question s (Factorize i j) = []
+question s Skip = []
+question s (Backtrack l) =
+    let N = conflictOf (s .conflict) in
+    atomsOf (cut (backLevel N l (s .trail)) (s .trail)) ++ groundAtoms (N .instance) (N .clause .atoms)
+question s (Grow n) = []
+question s (Unknown r) = []
 
 -- ---- the state that each rule names
 

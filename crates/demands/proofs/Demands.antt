@@ -25,13 +25,13 @@ use Rattle.runfile.specs.Readers.{Got, got, bad}
 use Rattle.runfile.proofs.Given.{every-file}
 use Rattle.rules.proofs.Runs.{some-conflict}
 use Rattle.listing.specs.Lines.{badLine, lastLine}
-use Rattle.listing.specs.Listing.{Ends, Listing, Tried, badFile, goodFile, mostListing, refused, through, went, withFile, withStep}
+use Rattle.listing.specs.Listing.{Ends, Listing, Tried, badFile, goodFile, mostListing, nothing, refused, through, went, withFile, withStep}
 use Rattle.listing.proofs.Every.{answers-all, every-file-listed}
 use Rattle.listing.proofs.NoModel.{tried-run}
-use Rattle.listing.proofs.Once.{printed-once}
+use Rattle.listing.proofs.Once.{nothing-once, printed-once}
 use Rattle.judging.specs.Judging.{Lists}
 use Rattle.judging.proofs.EndToEnd.{end-to-end, written-text}
-use Rattle.judging.proofs.Judging.{leaves-once}
+use Rattle.judging.proofs.Judging.{lists-once}
 use Rattle.judging.specs.declared.Written.{Written}
 use Rattle.judging.specs.declared.Written.the-variants.{Bytes, Short}
 use Rattle.asking.specs.Steps.{stepOf}
@@ -52,7 +52,7 @@ use Rattle.demands.specs.Demands.{AdmitAnswered, RightAnswer, Demand1, D
 
 -- What is printed of a file, and how judging it ends
 printed-ends : (s : List ℕ) → (w : List ℕ) × (k : ℕ) × (p : ℕ) × Listing s w × Ends (plain whole) s k p
-printed-ends s = let (w, q) = every-file-listed (plain whole) answers-all lastLine s in go q
+printed-ends s = let (w, q) = every-file-listed (plain whole) answers-all (nothing (plain whole)) (λ o R x a j z. ([], refl)) lastLine s in go q
   where
     go : {w : List ℕ} → Listing s w → (w : List ℕ) × (k : ℕ) × (p : ℕ) × Listing s w × Ends (plain whole) s k p
     go (badFile n p f) = (_, n, p, badFile n p f, withFile n p f)
@@ -68,13 +68,13 @@ file-ends s d = elim (decLt (length d) mostListing) [
 ]
   where
     only : (a b : List ℕ × Written) → Lists s d (a .0) (a .1) → Lists s d (b .0) (b .1) → a ≡ b
-    only a b q r = let (same, left) = leaves-once (plain whole) (answers.answer-unique whole) lastLine mostListing s d (a .0) (b .0) (a .1) (b .1) q r in λ i. (left i, same i)
+    only a b q r = let (same, left) = lists-once s d (a .0) (b .0) (a .1) (b .1) q r in λ i. (left i, same i)
 
 -- The last answer of steps tried is that of a step, or none was refused.
 tried-in-table : (xs : List states.Step) {s : states.State} {n : ℕ} {w : List ℕ} {e : Answer} → Tried (plain whole) s n xs w e → e .number ≤ noRoom
 tried-in-table [] through = omega arith
 tried-in-table (x ∷ xs) {s} (refused a j z) = number-in-table whole s x a j
-tried-in-table (x ∷ xs) (went a j z t) = tried-in-table xs t
+tried-in-table (x ∷ xs) (went a j z b t) = tried-in-table xs t
 
 file-right : (s d d′ : List ℕ) (r : Written) → Lists s d d′ r → FileRight s d d′ r
 file-right s d d′ Short (h, e) = (h, e)
@@ -88,7 +88,7 @@ file-right s d d′ (Bytes n k p) (room, ends, (w, listing, count, left)) = go e
     go (withFile number place f) (bad m q) g o =
         let m-is : m ≡ number = cc in
         let q-is : q ≡ place = cc in
-        FileAnswered.refused f (rw (sym m-is) (o .least)) (rw (sym m-is) (o .most)) (rw (sym q-is) (o .in-file)) (text ∙ printed-once (plain whole) (answers.answer-unique whole) lastLine s w (badLine number place) listing (badFile number place f))
+        FileAnswered.refused f (rw (sym m-is) (o .least)) (rw (sym m-is) (o .most)) (rw (sym q-is) (o .in-file)) (text ∙ printed-once (plain whole) (answers.answer-unique whole) (nothing (plain whole)) (nothing-once (plain whole)) lastLine s w (badLine number place) listing (badFile number place f))
     go (withStep F next e f t) (bad m q) g o = absurd (let z : _≡_ {A = ℕ} 0 1 = cc in omega arith)
     go (withStep F next e f t) (got G m) g o = FileAnswered.listed G (g ∙ ap (got G) (o .1)) (subst (Listing s) (sym text) listing) (tried-in-table (F .steps) t)
 
@@ -96,7 +96,7 @@ file-right s d d′ (Bytes n k p) (room, ends, (w, listing, count, left)) = go e
 
 step-right : (r : State) (x : Step) (a : Answered) → Made r → Answers r x a → StepAnswered r a
 step-right r x a (s, S) h =
-    let (b, j, e) = h s S in
+    let (b, n, j, handed, e) = h s S in
     let number-is = ap (λ (q : Answered). q .number) e in
     record {
       in-table = rw number-is (number-in-table whole s (stepOf x) b j);
@@ -126,7 +126,7 @@ demand-1 = record {
 
 by-the-rule : (r : State) (s : states.State) (x : Step) (a : Answered) → StateOf r s → Answers r x a → RightAnswer s (stepOf x) a
 by-the-rule r s x a S h =
-    let (b, j, e) = h s S in
+    let (b, n, j, handed, e) = h s S in
     let number-is : a .number ≡ b .number = ap (λ (q : Answered). q .number) e in
     let place-is : a .place ≡ b .place = ap (λ (q : Answered). q .place) e in
     let exactly = accepted-exactly-if-allowed whole s (stepOf x) b j in

@@ -4,6 +4,7 @@ use mathlib.Core.Logic.{_↔_}
 use mathlib.Core.List.{List, [], _∷_}
 use mathlib.Core.Option.{Option, none, some}
 use lib.Dec.{T}
+use lib.IntN.{ℤ}
 use lib.ListN.{length}
 use Rattle.basis.specs.Numbers.{whole}
 use Rattle.basis.specs.declared.Literal.{Literal}
@@ -12,11 +13,13 @@ use Rattle.calculus.proofs.Computed.{answer}
 use Rattle.calculus.specs.Clauses.{Instanced}
 use Rattle.calculus.specs.Conditions.{Judged}
 use Rattle.calculus.specs.FalseTools.{ByTheRules, MeetsDemand2, Refutation, Tool, reached}
+use Rattle.calculus.specs.Handing.{HandsOn}
 use Rattle.calculus.specs.Rules.{Answer}
 use Rattle.calculus.specs.Runs.{Reached, plain}
 use Rattle.calculus.specs.States.{State, Step}
 use Rattle.calculus.proofs.Answers.{judged-by}
 use Rattle.calculus.proofs.Runs.{admitted-reached, steps-keep-reached}
+use Rattle.rules.proofs.Handing.{every-step-hands}
 use Rattle.rules.proofs.Told.{decided}
 use Rattle.listing.specs.Lines.{isEmpty, isRefutation}
 use Rattle.asking.specs.Steps.{stepOf}
@@ -65,8 +68,13 @@ meets s₀ A before x = subst (λ s. ByTheRules s x (tool s₀ before x)) (sym (
     (record { judged = right-judged (after s₀ before) x; entries = refl; level = refl; refuted = refutation-says (right (after s₀ before) x .state) })
 
 as-the-code : AsTheCode tool
-as-the-code s₀ A before x = subst (λ s. Answers (packedState s) x (packedAnswer (tool s₀ before (stepOf x) .answer))) (sym (reached-after s₀ before))
-    (answers-so (after s₀ before) x (right (after s₀ before) (stepOf x)) (after-reached s₀ A before) (right-judged (after s₀ before) (stepOf x)))
+as-the-code s₀ A before x =
+    let a = right (after s₀ before) (stepOf x) in
+    let R = after-reached s₀ A before in
+    let j = right-judged (after s₀ before) (stepOf x) in
+    let (h, k) = every-step-hands (after s₀ before) (stepOf x) a R j in
+    subst (λ s. (h : Option (List ℤ)) × HandsOn s (stepOf x) (a .number) h × Answers (packedState s) x (packedAnswer a h)) (sym (reached-after s₀ before))
+    (h, k, answers-so (after s₀ before) x a h R j k)
 
 pub right-tool-exists : RightToolExists
 right-tool-exists = (tool, meets, as-the-code)

@@ -18,25 +18,24 @@ use Rattle.basis.specs.Numbers.{whole}
 use Rattle.basis.specs.Refusals.{accepted, keptNotPossible, noRoom, noSuch, notAbove, wrongLiteral, wrongMoment}
 use Rattle.basis.specs.declared.Atom.{Atom}
 use Rattle.basis.specs.declared.Literal.{Literal}
+use Rattle.basis.specs.declared.Witness.{Witness}
 use Rattle.lists.specs.Lists.{anyOf}
 use Rattle.rules.specs.Answers.{RunOf, Told}
 use Rattle.rules.specs.Records.{appendedAt, refusedBy}
 use Rattle.rules.specs.declared.Run.{Run}
-use Rattle.calculus.proofs.Levels.{cut-tail}
 use Rattle.calculus.specs.Tests.{literalExists}
-use Rattle.calculus.proofs.Computed.{question}
-use Rattle.calculus.specs.Rules.{backLevel, literalInstance, next, otherInstances}
+use Rattle.calculus.specs.Rules.{backLevel, literalInstance, next, otherInstances, question}
 use Rattle.calculus.specs.States.{Backtrack, State, clauses, conflictOf}
 use Rattle.calculus.specs.Trails.{Trail, atomsOf, cut, foreground, levelOf, propagated}
 use Rattle.clauses.specs.Records.{instancedOf, packedInstanced}
 use Rattle.clauses.specs.declared.Instanced.{Instanced}
-use Rattle.rules.proofs.Reached.{AllFine, fine-atoms, fine-tail, ground-proper}
+use Rattle.rules.proofs.Reached.{kept-proper}
 use Rattle.rules.proofs.Runs.{clauses-is, conflict-says, constants-is, fine, fine-conflict, input-is, learned-is, packed-as, standing, stands-is, stored}
-use Rattle.rules.proofs.Testing.{decides}
+use Rattle.rules.proofs.Testing.{decides, hands}
 use Rattle.rules.proofs.Told.{accepted-as, refused, refused-by}
 use Rattle.testing.proofs.Atoms.{known-says, step-says, tested-says}
 use Rattle.testing.proofs.New.{propagated-new, pushed-length}
-use Rattle.testing.specs.Asked.{Gathers, SaysPossible, knownAtoms, stepAtoms, testedAtoms}
+use Rattle.testing.specs.Asked.{Gathers, WitnessOf, knownAtoms, stepAtoms, testedAtoms}
 use Rattle.testing.specs.New.{newAtoms, packedNew, pushedAtoms}
 use Rattle.testing.specs.declared.NewAtoms.{NewAtoms}
 use Rattle.testing.specs.declared.Tested.{Tested}
@@ -46,10 +45,6 @@ use Rattle.trail.specs.Answers.{levelsSeen}
 use Rattle.trail.specs.Entries.{Recorded, Stored, trailOf}
 use Rattle.trail.specs.declared.Entry.{Entry}
 use Rattle.trail.specs.declared.LevelsSeen.{LevelsSeen}
-
--- What is cut off leaves the rest as it was.
-fine-cut : (cs : List calculus.Clause) (n i : ℕ) (t : Trail) → AllFine cs n t → AllFine cs n (cut i t)
-fine-cut cs n i t f = fine-tail cs n (cut-tail i t) f
 
 -- No more entries are kept than there are.
 pub kept-below : (r : Run) (l : ℕ) {v : LevelsSeen} → v ≡ levelsSeen (instancedOf (r .conflict)) l (trailOf (r .trail) (r .length)) → v .kept ≤ r .length
@@ -104,23 +99,20 @@ module _ {r : Run} {s : State} (R : RunOf r s) (l : ℕ) where
         kept-is = ap (λ (u : LevelsSeen). trailOf (r .trail) (u .kept)) v-is ∙ cut-first (r .trail) (backLevel n l (trailOf (r .trail) (r .length))) (r .length)
             ∙ carry (λ q t. cut (backLevel n l (trailOf (r .trail) (r .length))) (trailOf (r .trail) (r .length)) ≡ cut (backLevel q l t) t) refl
 
-        module _ (h₃ : v .others < v .own) (w : Tested) (G : Gathers w (atomsOf u₁) (groundAtoms (n .instance) (n .clause .atoms))) (b : Bool) (d : SaysPossible (r .constants) (testedAtoms w) b) where
+        module _ (h₃ : v .others < v .own) (w : Tested) (G : Gathers w (atomsOf u₁) (groundAtoms (n .instance) (n .clause .atoms))) (b : Witness) (d : WitnessOf (r .constants) (testedAtoms w) b) where
           above : ltb (backLevel N l (s .trail)) (levelOf (literalInstance N l) (s .trail)) ≡ true
           above = lt-ltb (backLevel N l (s .trail)) (levelOf (literalInstance N l) (s .trail)) (omega (arith, back-is, level-of))
 
           together : testedAtoms w ≡ question s (Backtrack l)
           together = tested-says G ∙ (λ i. atomsOf (kept-is i) ++ groundAtoms (conflict-says R e i .instance) (conflict-says R e i .clause .atoms))
 
-          says : T b ↔ Possible whole (s .constants) (question s (Backtrack l))
-          says = decides (s .constants) (atomsOf t₁) (groundAtoms (N .instance) (N .clause .atoms)) b (fine R .few-constants)
-              (fine-atoms (clauses s) (s .constants) t₁ (fine-cut (clauses s) (s .constants) (backLevel N l (s .trail)) (s .trail) (fine R .entries)))
-              (ground-proper (s .constants) (N .clause .variables) (N .instance) (fine-conflict R e .sized) (N .clause .atoms) (fine-conflict R e .class .atoms-proper))
-              (subst (λ (c : ℕ). SaysPossible c (question s (Backtrack l)) b) (constants-is R) (subst (λ (az : List Atom). SaysPossible (r .constants) az b) together d))
+          says : T (b .given) ↔ Possible whole (s .constants) (question s (Backtrack l))
+          says = decides R (Backtrack l) d together (kept-proper (fine R) (backLevel N l (s .trail)) N (fine-conflict R e))
 
-          backtrack-impossible : b ≡ false → Told s (Backtrack l) (refusedBy r keptNotPossible)
-          backtrack-impossible h = refused-by R (Backtrack l) b says keptNotPossible tt tt (simp (standing R e, exists h₁, again-is h₂, above, h))
+          backtrack-impossible : b .given ≡ false → Told s (Backtrack l) (refusedBy r keptNotPossible)
+          backtrack-impossible h = refused-by R (Backtrack l) (b .given) says keptNotPossible tt tt (simp (standing R e, exists h₁, again-is h₂, above, h))
 
-          module _ (h₄ : b ≡ true) (f : NewAtoms) (f-is : f ≡ packedNew (newAtoms (knownAtoms w) (stepAtoms w))) (g : Literal) (g-is : g ≡ literalInstance n l) where
+          module _ (h₄ : b .given ≡ true) (f : NewAtoms) (f-is : f ≡ packedNew (newAtoms (knownAtoms w) (stepAtoms w))) (g : Literal) (g-is : g ≡ literalInstance n l) where
             abbrev new : List Atom
             new = newAtoms (knownAtoms w) (stepAtoms w)
 
@@ -141,30 +133,30 @@ module _ {r : Run} {s : State} (R : RunOf r s) (l : ℕ) where
             grown-length = ap length (sym grown) ∙ pushed-length new (foreground g (propagated m l (n .instance)) ∷ u₁) ∙ omega (arith, ap (λ (q : NewAtoms). q .count) f-is, trail-length (r .trail) (v .kept))
 
             backtrack-long : mostEntries ≤ v .kept + f .count → Told s (Backtrack l) (refusedBy r noRoom)
-            backtrack-long h = refused-by R (Backtrack l) b says noRoom tt tt (simp (standing R e, exists h₁, again-is h₂, above, h₄, lt-leb (length (next s (Backtrack l) .trail)) mostEntries (omega (arith, grown-length))))
+            backtrack-long h = refused-by R (Backtrack l) (b .given) says noRoom tt tt (simp (standing R e, exists h₁, again-is h₂, above, h₄, lt-leb (length (next s (Backtrack l) .trail)) mostEntries (omega (arith, grown-length))))
 
             module _ (h₅ : v .kept + f .count < mostEntries) where
               fits : leb (length (next s (Backtrack l) .trail)) mostEntries ≡ true
               fits = le-leb (length (next s (Backtrack l) .trail)) mostEntries (omega (arith, grown-length))
 
               backtrack-no-room : mostLearned ≤ r .learned → Told s (Backtrack l) (refusedBy r noRoom)
-              backtrack-no-room h = refused-by R (Backtrack l) b says noRoom tt tt (simp (standing R e, exists h₁, again-is h₂, above, h₄, fits, lt-leb (suc (length (s .learned))) mostLearned (omega (arith, learned-is R))))
+              backtrack-no-room h = refused-by R (Backtrack l) (b .given) says noRoom tt tt (simp (standing R e, exists h₁, again-is h₂, above, h₄, fits, lt-leb (suc (length (s .learned))) mostLearned (omega (arith, learned-is R))))
 
               backtrack-accepted : r .learned < mostLearned → (o : Entry) → Recorded o (foreground g (propagated m l (n .instance)))
-                  → (blank : Instanced) → blank ≡ packedInstanced noInstanced → Told s (Backtrack l) (appendedAt (backtracked (v .others) blank r) (v .kept) o f m)
+                  → (blank : Instanced) → blank ≡ packedInstanced noInstanced → Told s (Backtrack l) (appendedAt (backtracked (v .others) blank r) (v .kept) o f m b)
               backtrack-accepted h o E blank none =
-                  subst (λ (i : ℕ). Told s (Backtrack l) (record { run = appendedAt (backtracked (v .others) blank r) (v .kept) o f m .run; number = accepted; place = 0; learned = i })) (sym number)
-                  (accepted-as R (Backtrack l) b says
-                  (simp (standing R e, exists h₁, again-is h₂, above, h₄, fits, le-leb (suc (length (s .learned))) mostLearned (omega (arith, learned-is R))) (tt, (tt, (tt, (tt, (tt, (tt, tt)))))))
+                  subst (λ (i : ℕ). Told s (Backtrack l) (record { run = appendedAt (backtracked (v .others) blank r) (v .kept) o f m b .run; number = accepted; place = 0; learned = i; witness = b })) (sym number)
+                  (accepted-as R (Backtrack l) (b .given) says
+                  (simp (standing R e, exists h₁, again-is h₂, above, h₄, fits, le-leb (suc (length (s .learned))) mostLearned (omega (arith, learned-is R))) (tt, (tt, (tt, (tt, (tt, (tt, tt))))))) (hands R (Backtrack l) d together refl h₄)
                   _ (packed-as (next s (Backtrack l)) (constants-is R) (input-is R) (omega (arith, learned-is R, length-append (s .learned) (N .clause ∷ []))) back-is refl
-                  (subst (Stored (appendedAt r (v .kept) o f m .run .trail) (v .kept + f .count + 1)) grown (appended-stored f new f-is (few-new G f-is) h₅ (cut-stored (r .trail) (r .length) (v .kept) (kept-below r l v-is) (stored-own (stored R))) E)) none))
+                  (subst (Stored (appendedAt r (v .kept) o f m b .run .trail) (v .kept + f .count + 1)) grown (appended-stored f new f-is (few-new G f-is) h₅ (cut-stored (r .trail) (r .length) (v .kept) (kept-below r l v-is) (stored-own (stored R))) E)) none))
 
   module _ (a b : Bool) (a-is : a ≡ literalExists (instancedOf (r .conflict) .clause) l)
       (b-is : b ≡ anyOf (sameLiteral (literalInstance (instancedOf (r .conflict)) l)) (otherInstances (instancedOf (r .conflict)) l))
       (v : LevelsSeen) (v-is : v ≡ levelsSeen (instancedOf (r .conflict)) l (trailOf (r .trail) (r .length))) (w : Tested)
-      (G : Gathers w (atomsOf (trailOf (r .trail) (v .kept))) (groundAtoms (instancedOf (r .conflict) .instance) (instancedOf (r .conflict) .clause .atoms))) (p : Bool) (d : SaysPossible (r .constants) (testedAtoms w) p)
+      (G : Gathers w (atomsOf (trailOf (r .trail) (v .kept))) (groundAtoms (instancedOf (r .conflict) .instance) (instancedOf (r .conflict) .clause .atoms))) (p : Witness) (d : WitnessOf (r .constants) (testedAtoms w) p)
       (f : NewAtoms) (f-is : f ≡ packedNew (newAtoms (knownAtoms w) (stepAtoms w))) {n n₁ n₂ n₃ n₄ n₅ n₆ : ℕ} (e₆ : n₆ ≡ cond (ltb (r .learned) mostLearned) 0 noRoom)
-      (e₅ : n₅ ≡ cond (ltb (v .kept + f .count) mostEntries) n₆ noRoom) (e₄ : n₄ ≡ cond p n₅ keptNotPossible) (e₃ : n₃ ≡ cond (ltb (v .others) (v .own)) n₄ notAbove) (e₂ : n₂ ≡ cond (not b) n₃ wrongLiteral)
+      (e₅ : n₅ ≡ cond (ltb (v .kept + f .count) mostEntries) n₆ noRoom) (e₄ : n₄ ≡ cond (p .given) n₅ keptNotPossible) (e₃ : n₃ ≡ cond (ltb (v .others) (v .own)) n₄ notAbove) (e₂ : n₂ ≡ cond (not b) n₃ wrongLiteral)
       (e₁ : n₁ ≡ cond a n₂ noSuch) (e₀ : n ≡ cond (r .stands) n₁ wrongMoment) where
     pub backtrack-refused : ¬ (n ≡ 0) → Told s (Backtrack l) (refusedBy r n)
     backtrack-refused h =
@@ -172,7 +164,7 @@ module _ {r : Run} {s : State} (R : RunOf r s) (l : ℕ) where
         asked a _ _ e₁ (λ f q. as-told (q₀ ∙ q) (backtrack-no-such t₀ (sym a-is ∙ f))) (λ t₁ q₁. let h₁ = sym a-is ∙ t₁ in
         asked (not b) _ _ e₂ (λ f q. as-told (q₀ ∙ q₁ ∙ q) (backtrack-again t₀ h₁ (sym b-is ∙ not-false b f))) (λ t₂ q₂. let h₂ = sym b-is ∙ not-true b t₂ in
         asked (ltb (v .others) (v .own)) _ _ e₃ (λ f q. as-told (q₀ ∙ q₁ ∙ q₂ ∙ q) (backtrack-not-above t₀ h₁ h₂ v v-is (ltb-false (v .others) (v .own) f))) (λ t₃ q₃. let h₃ = ltb-true (v .others) (v .own) t₃ in
-        asked p _ _ e₄ (λ f q. as-told (q₀ ∙ q₁ ∙ q₂ ∙ q₃ ∙ q) (backtrack-impossible t₀ h₁ h₂ v v-is h₃ w G p d f)) (λ t₄ q₄.
+        asked (p .given) _ _ e₄ (λ f q. as-told (q₀ ∙ q₁ ∙ q₂ ∙ q₃ ∙ q) (backtrack-impossible t₀ h₁ h₂ v v-is h₃ w G p d f)) (λ t₄ q₄.
         asked (ltb (v .kept + f .count) mostEntries) _ _ e₅
         (λ g q. as-told (q₀ ∙ q₁ ∙ q₂ ∙ q₃ ∙ q₄ ∙ q) (backtrack-long t₀ h₁ h₂ v v-is h₃ w G p d t₄ f f-is (literalInstance (instancedOf (r .conflict)) l) refl (ltb-false (v .kept + f .count) mostEntries g))) (λ t₅ q₅.
         asked (ltb (r .learned) mostLearned) _ _ e₆
@@ -186,7 +178,7 @@ module _ {r : Run} {s : State} (R : RunOf r s) (l : ℕ) where
         let (t₁, z₂) = passed a _ _ e₁ tt z₁ in
         let (t₂, z₃) = passed (not b) _ _ e₂ tt z₂ in
         let (t₃, z₄) = passed (ltb (v .others) (v .own)) _ _ e₃ tt z₃ in
-        let (t₄, z₅) = passed p _ _ e₄ tt z₄ in
+        let (t₄, z₅) = passed (p .given) _ _ e₄ tt z₄ in
         let (t₅, z₆) = passed (ltb (v .kept + f .count) mostEntries) _ _ e₅ tt z₅ in
         let (t₆, z₇) = passed (ltb (r .learned) mostLearned) _ _ e₆ tt z₆ in
         (few-new G f-is, ltb-true (v .kept + f .count) mostEntries t₅, ltb-true (r .learned) mostLearned t₆)
@@ -194,12 +186,12 @@ module _ {r : Run} {s : State} (R : RunOf r s) (l : ℕ) where
     -- .. and what is stored is what the rule names.
     pub backtrack-told : n ≡ 0 → (g : Literal) → g ≡ literalInstance (instancedOf (r .conflict)) l → (e : Entry)
         → Recorded e (foreground g (propagated (r .input + r .learned + 1) l (instancedOf (r .conflict) .instance))) → (blank : Instanced) → blank ≡ packedInstanced noInstanced
-        → Told s (Backtrack l) (appendedAt (backtracked (v .others) blank r) (v .kept) e f (r .input + r .learned + 1))
+        → Told s (Backtrack l) (appendedAt (backtracked (v .others) blank r) (v .kept) e f (r .input + r .learned + 1) p)
     backtrack-told o g g-is e E blank none =
         let (t₀, z₁) = passed (r .stands) _ _ e₀ tt o in
         let (t₁, z₂) = passed a _ _ e₁ tt z₁ in
         let (t₂, z₃) = passed (not b) _ _ e₂ tt z₂ in
         let (t₃, z₄) = passed (ltb (v .others) (v .own)) _ _ e₃ tt z₃ in
-        let (t₄, z₅) = passed p _ _ e₄ tt z₄ in
+        let (t₄, z₅) = passed (p .given) _ _ e₄ tt z₄ in
         let (few, fits, learnable) = backtrack-fits o in
         backtrack-accepted t₀ (sym a-is ∙ t₁) (sym b-is ∙ not-true b t₂) v v-is (ltb-true (v .others) (v .own) t₃) w G p d t₄ f f-is g g-is fits learnable e E blank none

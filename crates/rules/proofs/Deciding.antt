@@ -1,7 +1,7 @@
 -- Decide: each answer in terms of what the code has seen.
 use mathlib.Core.Path.{_∙_, _≡_, ap, refl, subst, sym}
 use mathlib.Core.List.{List}
-use mathlib.Core.Option.{Option}
+use mathlib.Core.Option.{Option, none}
 use mathlib.Core.Bool.{Bool, _&&_, cond, false, not, true}
 use Prim.Native.Nat.{_+_, _-_, _<_, _≤_, suc, ℕ}
 use native.Mathlib.Omega.{arith}
@@ -11,6 +11,7 @@ use borrow.Author.Tests.{le-leb, leb-false, leb-true, lt-leb, ltb-false, ltb-tru
 use Rattle.basis.specs.Limits.{mostEntries, mostVariables}
 use Rattle.basis.specs.Refusals.{aboveLimit, alreadyDefined, noRoom, noSuch, outOfRange, wrongMoment}
 use Rattle.basis.specs.declared.Literal.{Literal}
+use Rattle.basis.specs.declared.Witness.{Witness}
 use Rattle.lists.specs.Arrays.{exactly}
 use Rattle.rules.specs.Answers.{RunOf, Told}
 use Rattle.asking.specs.Looking.{lookedAt}
@@ -27,11 +28,12 @@ use Rattle.clauses.specs.Records.{clauseOf, packed, packedInstanced}
 use Rattle.rules.proofs.Naming.{and-true, asked-is, instance-is, instance-long, instance-short, looks-named, named-says}
 use Rattle.rules.proofs.Runs.{accepting, conflict-is, constants-is, input-is, learned-is, level-is, no-conflict, packed-as, remade, stands-shown, stored}
 use Rattle.rules.proofs.Asking.{and-so, as-told, asked, passed}
-use Rattle.rules.proofs.Told.{accepted-as, nothing-asked, refused}
+use Rattle.rules.proofs.Told.{accepted-as, hands-none, nothing-asked, refused}
 use Rattle.trail.proofs.Stored.{stored-length, stored-pushed}
 use Rattle.trail.specs.Entries.{Recorded, trailOf}
 use Rattle.trail.specs.declared.Entry.{Entry}
 use Rattle.calculus.specs.Clauses as calculus
+use Rattle.constraint.specs.Witnesses.{packedWitness}
 
 module _ {r : Run} {s : State} (R : RunOf r s) (k : Looked) (c l g count : ℕ) (ι : List ℕ) (long : length ι ≡ 12) where
   abbrev Refuses : ℕ → Type 0
@@ -105,10 +107,10 @@ module _ {r : Run} {s : State} (R : RunOf r s) (k : Looked) (c l g count : ℕ) 
             decide-no-room : mostEntries ≤ r .length → Refuses noRoom
             decide-no-room h = given (refused R x noRoom tt tt (λ b. simp (short, sign, free, named h₄, open-yet h₄ h₅, lt-leb (suc (length (s .trail))) mostEntries (omega (arith, grown-length)))))
 
-            decide-accepted : r .length < mostEntries → (e : Entry) → Recorded e (foreground m (decided c l (isOne g) τ))
-                → Told s (Decide c l g (exactly count 0 ι)) (accepting (remade r (r .constants) (r .level + 1) (r .length + 1) (set (r .trail) (r .length) e) (r .conflict)))
-            decide-accepted h e E = given (accepted-as R x true (nothing-asked s x refl)
-                (simp (short, sign, free, named h₄, open-yet h₄ h₅, le-leb (suc (length (s .trail))) mostEntries (omega (arith, grown-length))) (tt, (tt, (tt, (tt, (tt, (tt, tt)))))))
+            decide-accepted : r .length < mostEntries → (e : Entry) → Recorded e (foreground m (decided c l (isOne g) τ)) → (w : Witness) → w ≡ packedWitness none
+                → Told s (Decide c l g (exactly count 0 ι)) (accepting (remade r (r .constants) (r .level + 1) (r .length + 1) (set (r .trail) (r .length) e) (r .conflict)) w)
+            decide-accepted h e E w w-is = given (accepted-as R x true (nothing-asked s x refl)
+                (simp (short, sign, free, named h₄, open-yet h₄ h₅, le-leb (suc (length (s .trail))) mostEntries (omega (arith, grown-length))) (tt, (tt, (tt, (tt, (tt, (tt, tt))))))) (hands-none s x refl w-is)
                 _ (packed-as (next s x) (constants-is R) (input-is R) (learned-is R) (omega (arith, level-is R)) h₃
                 (stored-pushed (stored R) h (subst (λ (p : Literal). Recorded e (foreground p (decided c l (isOne g) τ))) (literal-is h₄) E))
                 (conflict-is R ∙ ap (λ (o : Option calculus.Instanced). packedInstanced (conflictOf o)) (no-conflict (s .conflict) free))))
@@ -143,12 +145,12 @@ module _ {r : Run} {s : State} (R : RunOf r s) (k : Looked) (c l g count : ℕ) 
         ltb-true (r .length) mostEntries t₅
 
     -- .. and what is stored is what the rule names.
-    pub decide-told : n ≡ 0 → (e : Entry) → Recorded e (foreground m (decided c l (isOne g) (take count ι)))
-        → Told s (Decide c l g (exactly count 0 ι)) (accepting (remade r (r .constants) (r .level + 1) (r .length + 1) (set (r .trail) (r .length) e) (r .conflict)))
-    decide-told z e E =
+    pub decide-told : n ≡ 0 → (e : Entry) → Recorded e (foreground m (decided c l (isOne g) (take count ι))) → (w : Witness) → w ≡ packedWitness none
+        → Told s (Decide c l g (exactly count 0 ι)) (accepting (remade r (r .constants) (r .level + 1) (r .length + 1) (set (r .trail) (r .length) e) (r .conflict)) w)
+    decide-told z e E w w-is =
         let (t₀, z₁) = passed (leb count mostVariables) _ _ e₀ tt z in
         let (t₁, z₂) = passed (leb g 1) _ _ e₁ tt z₁ in
         let (t₂, z₃) = passed (not (r .stands)) _ _ e₂ tt z₂ in
         let (t₃, z₄) = passed a _ _ e₃ tt z₃ in
         let (t₄, z₅) = passed b _ _ e₄ tt z₄ in
-        decide-accepted (leb-true count mostVariables t₀) (leb-true g 1 t₁) (not-true (r .stands) t₂) handed m m-is (is-named t₀ t₃) (sym b-is ∙ t₄) (decide-fits z) e E
+        decide-accepted (leb-true count mostVariables t₀) (leb-true g 1 t₁) (not-true (r .stands) t₂) handed m m-is (is-named t₀ t₃) (sym b-is ∙ t₄) (decide-fits z) e E w w-is

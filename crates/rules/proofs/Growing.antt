@@ -9,6 +9,7 @@ use lib.Seq.{take-length}
 use Rattle.basis.specs.Atoms.{noAtom}
 use Rattle.basis.specs.Limits.{mostAtoms, mostEntries}
 use Rattle.basis.specs.declared.Atom.{Atom}
+use Rattle.basis.specs.declared.Witness.{Witness}
 use Rattle.calculus.specs.Trails as calculus
 use Rattle.calculus.specs.Trails.{Trail, background}
 use Rattle.clauses.specs.declared.Instanced.{Instanced}
@@ -51,10 +52,10 @@ module _ {first now : Run} {f : NewAtoms} {m j : ℕ} (G : Grows first now f m j
       }
 
   -- All are appended.
-  grown-all : f .count ≤ j → (n c : ℕ) → lengthened now n (now .trail) c ≡ lengthened first n (withAtoms (first .trail) m (f .at) (f .count)) c
-  grown-all h n c =
+  grown-all : f .count ≤ j → (n c : ℕ) (w : Witness) → lengthened now n (now .trail) c w ≡ lengthened first n (withAtoms (first .trail) m (f .at) (f .count)) c w
+  grown-all h n c w =
       let all : j ≡ f .count = omega (arith, G .few) in
-      (λ i. lengthened (G .is i) n (G .is i .trail) c) ∙ ap (λ (i : ℕ). lengthened first n (withAtoms (first .trail) m (f .at) i) c) all
+      (λ i. lengthened (G .is i) n (G .is i .trail) c w) ∙ ap (λ (i : ℕ). lengthened first n (withAtoms (first .trail) m (f .at) i) c w) all
 
 -- What is stored is the trail with the entry and the new atoms.
 pub appended-stored : {es : List Entry} {t : Trail} {e : Entry} {x : calculus.Entry} {m : ℕ} (f : NewAtoms) (az : List Atom) → f ≡ packedNew az → f .count ≤ mostAtoms → m + f .count < mostEntries
@@ -119,5 +120,5 @@ cut-stored es n m h S =
 
 -- The run that is cut and then grown
 pub appended-all : {r q now : Run} {f : NewAtoms} {m k j : ℕ} (e : Entry) → Cuts r q m k → k ≤ m → Grows (restored q (set (q .trail) m e)) now f m j → f .count ≤ j
-    → (n c : ℕ) → lengthened now n (now .trail) c ≡ lengthened r n (withAtoms (set (withoutEntries (r .trail) (r .length) (r .length - m)) m e) m (f .at) (f .count)) c
-appended-all {f = f} {m = m} e C low G all n c = grown-all G all n c ∙ ap (λ (q : Run). lengthened q n (withAtoms (set (q .trail) m e) m (f .at) (f .count)) c) (cut-all C low)
+    → (n c : ℕ) (w : Witness) → lengthened now n (now .trail) c w ≡ lengthened r n (withAtoms (set (withoutEntries (r .trail) (r .length) (r .length - m)) m e) m (f .at) (f .count)) c w
+appended-all {f = f} {m = m} e C low G all n c w = grown-all G all n c w ∙ ap (λ (q : Run). lengthened q n (withAtoms (set (q .trail) m e) m (f .at) (f .count)) c w) (cut-all C low)

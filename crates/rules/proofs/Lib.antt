@@ -1,8 +1,9 @@
 -- Why each rule's answer is the calculus's.
-pub mod Told
-pub mod Once
 pub mod Reached
 pub mod Runs
+pub mod Handing
+pub mod Told
+pub mod Once
 pub mod Asking
 pub mod Naming
 pub mod Testing

@@ -1,6 +1,6 @@
 -- The clause that a step names, and its instance: what the code has seen, as the calculus's conditions.
 use mathlib.Core.Path.{_∙_, _≡_, ap, refl, subst, sym}
-use mathlib.Core.List.{List, List·Memᴰ}
+use mathlib.Core.List.{List}
 use mathlib.Core.Bool.{Bool, _&&_, false, true}
 use Prim.Native.Nat.{_+_, _-_, _<_, _≤_, suc, zero, ℕ}
 use native.Mathlib.Omega.{arith}
@@ -8,9 +8,7 @@ use lib.Dec.{T, leb}
 use lib.ListN.{getD, length, take}
 use lib.Seq.{length-take-le}
 use borrow.Author.Tests.{le-leb, lt-leb}
-use Rattle.basis.specs.Atoms.{Proper}
 use Rattle.basis.specs.Limits.{mostVariables}
-use Rattle.basis.specs.declared.Atom.{Atom}
 use Rattle.lists.proofs.Arrays.{exactly-length, exactly-take}
 use Rattle.lists.specs.Arrays.{exactly}
 use Rattle.rules.specs.Answers.{RunOf}
@@ -18,14 +16,11 @@ use Rattle.asking.specs.Looking.{heldAt}
 use Rattle.asking.specs.declared.Looked.{Looked}
 use Rattle.rules.specs.declared.Run.{Run}
 use Rattle.calculus.specs.Checks.{between}
-use Rattle.calculus.specs.Clauses.{groundAtoms}
-use Rattle.calculus.specs.Tests.{clauseExists, instanceFits}
+use Rattle.calculus.specs.Tests.{clauseExists}
 use Rattle.calculus.specs.States.{State, clauseAt, clauses}
-use Rattle.calculus.specs.Trails.{atomsOf}
 use Rattle.clauses.specs.Records.{clauseOf, packed}
 use Rattle.clauses.specs.declared.Clause.{Clause}
-use Rattle.rules.proofs.Reached.{clause-proper, fine-atoms}
-use Rattle.rules.proofs.Runs.{clause-says, clauses-is, constants-is, fine}
+use Rattle.rules.proofs.Runs.{clause-says, clauses-is, constants-is}
 use Rattle.calculus.specs.Clauses as calculus
 
 -- ---- instances
@@ -68,9 +63,6 @@ module _ {r : Run} {s : State} (R : RunOf r s) (k : Clause) (c : ℕ) (looks : T
     pub named-says : clauseOf k ≡ clauseAt (clauses s) c
     named-says = clause-says R c k named-there named-packed
 
-    pub named-proper : (τ : List ℕ) → instanceFits (s .constants) (clauseAt (clauses s) c) τ ≡ true → (a : Atom) → List·Memᴰ a (groundAtoms τ (clauseAt (clauses s) c .atoms)) → Proper (s .constants) a
-    named-proper τ f = clause-proper (s .arities) (clauses s) (s .constants) (fine R .class) c τ named-there (subst T (sym f) tt)
-
 -- What the code asks of the clause that is named, and of that clause alone, the calculus asks.
 pub asked-is : {r : Run} {s : State} → RunOf r s → (k : Clause) (c : ℕ) → (T (clauseExists (clauses s) c) → k ≡ packed (clauseAt (clauses s) c)) → (P : ℕ → calculus.Clause → Bool)
     → (between 1 (r .input + r .learned) c && P (r .constants) (clauseOf k)) ≡ (clauseExists (clauses s) c && P (s .constants) (clauseAt (clauses s) c))
@@ -79,9 +71,6 @@ asked-is {r} {s} R k c looks P = go (between 1 (r .input + r .learned) c) refl
     go : (b : Bool) → between 1 (r .input + r .learned) c ≡ b → (between 1 (r .input + r .learned) c && P (r .constants) (clauseOf k)) ≡ (clauseExists (clauses s) c && P (s .constants) (clauseAt (clauses s) c))
     go true e = λ i. exists-is R k c looks i && P (constants-is R i) (named-says R k c looks e i)
     go false e = ap (λ (b : Bool). b && P (r .constants) (clauseOf k)) e ∙ sym (ap (λ (b : Bool). b && P (s .constants) (clauseAt (clauses s) c)) (sym (exists-is R k c looks) ∙ e))
-
-pub trail-proper : {r : Run} {s : State} → RunOf r s → (a : Atom) → List·Memᴰ a (atomsOf (s .trail)) → Proper (s .constants) a
-trail-proper {s = s} R = fine-atoms (clauses s) (s .constants) (s .trail) (fine R .entries)
 
 pub and-true : (a b : Bool) → (a && b) ≡ true → (a ≡ true) × (b ≡ true)
 and-true true b e = (refl, e)

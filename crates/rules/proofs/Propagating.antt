@@ -1,5 +1,5 @@
 -- Propagate: each answer in terms of what the code has seen.
-use mathlib.Core.Path.{_∙_, _≡_, ap, subst, sym}
+use mathlib.Core.Path.{_∙_, _≡_, ap, refl, subst, sym}
 use mathlib.Core.Logic.{_↔_}
 use mathlib.Core.List.{List, _∷_}
 use mathlib.Core.Option.{Option}
@@ -17,6 +17,7 @@ use Rattle.basis.specs.Numbers.{whole}
 use Rattle.basis.specs.Refusals.{aboveLimit, alreadyDefined, noRoom, noSuch, notFalse, notPossible, wrongMoment}
 use Rattle.basis.specs.declared.Atom.{Atom}
 use Rattle.basis.specs.declared.Literal.{Literal}
+use Rattle.basis.specs.declared.Witness.{Witness}
 use Rattle.lists.specs.Arrays.{exactly}
 use Rattle.rules.specs.Answers.{RunOf, Told}
 use Rattle.asking.specs.Looking.{lookedAt}
@@ -27,19 +28,19 @@ use Rattle.rules.specs.declared.Stepped.{Stepped}
 use Rattle.calculus.specs.Checks.{between}
 use Rattle.calculus.specs.Clauses.{ground, groundAtoms, noLiteral}
 use Rattle.calculus.specs.Tests.{clauseExists, instanceFits, literalExists, othersFalse}
-use Rattle.calculus.proofs.Computed.{question}
-use Rattle.calculus.specs.Rules.{next}
+use Rattle.calculus.specs.Rules.{next, question}
 use Rattle.calculus.specs.States.{Propagate, State, Step, clauseAt, clauses, conflictOf, stands}
 use Rattle.calculus.specs.Trails.{atomsOf, foreground, propagated, undefined}
 use Rattle.clauses.specs.Records.{clauseOf, packed, packedInstanced}
 use Rattle.rules.proofs.Growing.{appended-stored, cut-stored, few-new}
-use Rattle.rules.proofs.Naming.{and-true, asked-is, instance-is, instance-long, instance-short, looks-named}
-use Rattle.rules.proofs.Runs.{conflict-is, constants-is, input-is, learned-is, level-is, no-conflict, packed-as, standing, stands-is, stored}
-use Rattle.rules.proofs.Testing.{carry, not-zero, tested}
+use Rattle.rules.proofs.Naming.{and-true, asked-is, instance-is, instance-long, instance-short, looks-named, named-there}
+use Rattle.rules.proofs.Reached.{named-proper}
+use Rattle.rules.proofs.Runs.{conflict-is, constants-is, fine, input-is, learned-is, level-is, no-conflict, packed-as, standing, stands-is, stored}
+use Rattle.rules.proofs.Testing.{carry, decides, hands, not-zero, tested}
 use Rattle.rules.proofs.Told.{accepted-as, refused, refused-at, refused-by}
 use Rattle.testing.proofs.Atoms.{known-says, step-says}
 use Rattle.testing.proofs.New.{propagated-new, pushed-length}
-use Rattle.testing.specs.Asked.{Gathers, SaysPossible, knownAtoms, stepAtoms, testedAtoms}
+use Rattle.testing.specs.Asked.{Gathers, WitnessOf, knownAtoms, stepAtoms, testedAtoms}
 use Rattle.testing.specs.New.{newAtoms, packedNew, pushedAtoms}
 use Rattle.testing.specs.declared.NewAtoms.{NewAtoms}
 use Rattle.testing.specs.declared.Tested.{Tested}
@@ -121,17 +122,20 @@ module _ {r : Run} {s : State} (R : RunOf r s) (k : Looked) (c l count : ℕ) (�
           propagate-not-false h = given (refused-at R x p (number-is ∙ sym (its-number (passes true g (s .trail) τ) (C .literals) (some-not h)))
               (λ b. simp (short, free, named h₃, open-yet h₄, one-fails (passes true g (s .trail) τ) (C .literals) (some-not h))))
 
-          module _ (h₅ : p ≤ 0) (w : Tested) (G : Gathers w (atomsOf (trailOf (r .trail) (r .length))) (groundAtoms τ (clauseOf (k .clause) .atoms))) (b : Bool) (d : SaysPossible (r .constants) (testedAtoms w) b) where
+          module _ (h₅ : p ≤ 0) (w : Tested) (G : Gathers w (atomsOf (trailOf (r .trail) (r .length))) (groundAtoms τ (clauseOf (k .clause) .atoms))) (b : Witness) (d : WitnessOf (r .constants) (testedAtoms w) b) where
             others : othersFalse (s .trail) τ g (C .literals) ≡ true
             others = none-fails (passes true g (s .trail) τ) (C .literals) (sym number-is ∙ omega arith)
 
-            says : T b ↔ Possible whole (s .constants) (question s x)
-            says = tested R (k .clause) c looks there τ w G b d fits
+            together : testedAtoms w ≡ question s x
+            together = tested R (k .clause) c looks there τ w G
 
-            propagate-impossible : b ≡ false → Told s (Propagate c l (exactly count 0 ι)) (refusedBy r notPossible)
-            propagate-impossible h = given (refused-by R x b says notPossible tt tt (simp (short, free, named h₃, open-yet h₄, others, h)))
+            says : T (b .given) ↔ Possible whole (s .constants) (question s x)
+            says = decides R x d together (named-proper (fine R) c τ (named-there R (k .clause) c looks there) (subst T (sym fits) tt))
 
-            module _ (h₆ : b ≡ true) (f : NewAtoms) (f-is : f ≡ packedNew (newAtoms (knownAtoms w) (stepAtoms w))) where
+            propagate-impossible : b .given ≡ false → Told s (Propagate c l (exactly count 0 ι)) (refusedBy r notPossible)
+            propagate-impossible h = given (refused-by R x (b .given) says notPossible tt tt (simp (short, free, named h₃, open-yet h₄, others, h)))
+
+            module _ (h₆ : b .given ≡ true) (f : NewAtoms) (f-is : f ≡ packedNew (newAtoms (knownAtoms w) (stepAtoms w))) where
               abbrev new : List Atom
               new = newAtoms (knownAtoms w) (stepAtoms w)
 
@@ -147,21 +151,21 @@ module _ {r : Run} {s : State} (R : RunOf r s) (k : Looked) (c l count : ℕ) (�
                   ∙ omega (arith, ap (λ (q : NewAtoms). q .count) f-is, trail-length (r .trail) (r .length))
 
               propagate-no-room : mostEntries ≤ r .length + f .count → Told s (Propagate c l (exactly count 0 ι)) (refusedBy r noRoom)
-              propagate-no-room h = given (refused-by R x b says noRoom tt tt (simp (short, free, named h₃, open-yet h₄, others, h₆, lt-leb (length (next s x .trail)) mostEntries (omega (arith, grown-length)))))
+              propagate-no-room h = given (refused-by R x (b .given) says noRoom tt tt (simp (short, free, named h₃, open-yet h₄, others, h₆, lt-leb (length (next s x .trail)) mostEntries (omega (arith, grown-length)))))
 
-              propagate-accepted : r .length + f .count < mostEntries → (e : Entry) → Recorded e (foreground m (propagated c l τ)) → Told s (Propagate c l (exactly count 0 ι)) (appendedAt r (r .length) e f 0)
-              propagate-accepted h e E = given (accepted-as R x b says
-                  (simp (short, free, named h₃, open-yet h₄, others, h₆, le-leb (length (next s x .trail)) mostEntries (omega (arith, grown-length))) (tt, (tt, (tt, (tt, (tt, (tt, (tt, tt))))))))
+              propagate-accepted : r .length + f .count < mostEntries → (e : Entry) → Recorded e (foreground m (propagated c l τ)) → Told s (Propagate c l (exactly count 0 ι)) (appendedAt r (r .length) e f 0 b)
+              propagate-accepted h e E = given (accepted-as R x (b .given) says
+                  (simp (short, free, named h₃, open-yet h₄, others, h₆, le-leb (length (next s x .trail)) mostEntries (omega (arith, grown-length))) (tt, (tt, (tt, (tt, (tt, (tt, (tt, tt)))))))) (hands R x d together refl h₆)
                   _ (packed-as (next s x) (constants-is R) (input-is R) (learned-is R) (level-is R) h₂
-                  (subst (Stored (appendedAt r (r .length) e f 0 .run .trail) (r .length + f .count + 1)) (sym grown) (appended-stored f new f-is (few-new G f-is) h (cut-stored (r .trail) (r .length) (r .length) (omega arith) (stored-own (stored R))) E))
+                  (subst (Stored (appendedAt r (r .length) e f 0 b .run .trail) (r .length + f .count + 1)) (sym grown) (appended-stored f new f-is (few-new G f-is) h (cut-stored (r .trail) (r .length) (r .length) (omega arith) (stored-own (stored R))) E))
                   (conflict-is R ∙ ap (λ (q : Option calculus.Instanced). packedInstanced (conflictOf q)) (no-conflict (s .conflict) free))))
 
   module _ (handed : k ≡ lookedAt s (Propagate c l (exactly count 0 ι))) (a : Bool)
       (a-is : a ≡ (leb count mostVariables && (between 1 (r .input + r .learned) c && (literalExists (clauseOf (k .clause)) l && instanceFits (r .constants) (clauseOf (k .clause)) (take count ι)))))
       (m : Literal) (m-is : m ≡ ground (take count ι) (getD (clauseOf (k .clause) .literals) (l - 1) noLiteral)) (v : LiteralsSeen) (v-is : v ≡ literalsSeen (trailOf (r .trail) (r .length)) (clauseOf (k .clause)) (take count ι) true m)
-      (w : Tested) (G : Gathers w (atomsOf (trailOf (r .trail) (r .length))) (groundAtoms (take count ι) (clauseOf (k .clause) .atoms))) (b : Bool) (d : SaysPossible (r .constants) (testedAtoms w) b)
+      (w : Tested) (G : Gathers w (atomsOf (trailOf (r .trail) (r .length))) (groundAtoms (take count ι) (clauseOf (k .clause) .atoms))) (b : Witness) (d : WitnessOf (r .constants) (testedAtoms w) b)
       (f : NewAtoms) (f-is : f ≡ packedNew (newAtoms (knownAtoms w) (stepAtoms w))) {n n₁ n₂ n₃ n₄ n₅ n₆ : ℕ}
-      (e₆ : n₆ ≡ cond (ltb (r .length + f .count) mostEntries) 0 noRoom) (e₅ : n₅ ≡ cond b n₆ notPossible) (e₄ : n₄ ≡ cond (eqb (v .first) 0) n₅ notFalse) (e₃ : n₃ ≡ cond (v .free) n₄ alreadyDefined)
+      (e₆ : n₆ ≡ cond (ltb (r .length + f .count) mostEntries) 0 noRoom) (e₅ : n₅ ≡ cond (b .given) n₆ notPossible) (e₄ : n₄ ≡ cond (eqb (v .first) 0) n₅ notFalse) (e₃ : n₃ ≡ cond (v .free) n₄ alreadyDefined)
       (e₂ : n₂ ≡ cond a n₃ noSuch) (e₁ : n₁ ≡ cond (not (r .stands)) n₂ wrongMoment) (e₀ : n ≡ cond (leb count mostVariables) n₁ aboveLimit) where
     is-named : leb count mostVariables ≡ true → {q : Bool} → a ≡ q
         → (between 1 (r .input + r .learned) c && (literalExists (clauseOf (k .clause)) l && instanceFits (r .constants) (clauseOf (k .clause)) (take count ι))) ≡ q
@@ -181,7 +185,7 @@ module _ {r : Run} {s : State} (R : RunOf r s) (k : Looked) (c l count : ℕ) (�
         asked (v .free) _ _ e₃ (λ f q. other-told (v .first) (q₀ ∙ q₁ ∙ q₂ ∙ q) tt (propagate-defined h₁ h₂ handed h₃ m m-is (is-free f))) (λ t₃ q₃. let h₄ = is-free t₃ in
         asked (eqb (v .first) 0) _ _ e₄ (λ f q. place-told (v .first) (q₀ ∙ q₁ ∙ q₂ ∙ q₃ ∙ q) (propagate-not-false h₁ h₂ handed h₃ m m-is h₄ (v .first) is-first (positive (v .first) (eqb-false (v .first) 0 f))))
         (λ t₄ q₄. let h₅ = none (v .first) (eqb-true (v .first) 0 t₄) in
-        asked b _ _ e₅ (λ f q. other-told (v .first) (q₀ ∙ q₁ ∙ q₂ ∙ q₃ ∙ q₄ ∙ q) tt (propagate-impossible h₁ h₂ handed h₃ m m-is h₄ (v .first) is-first h₅ w G b d f)) (λ t₅ q₅.
+        asked (b .given) _ _ e₅ (λ f q. other-told (v .first) (q₀ ∙ q₁ ∙ q₂ ∙ q₃ ∙ q₄ ∙ q) tt (propagate-impossible h₁ h₂ handed h₃ m m-is h₄ (v .first) is-first h₅ w G b d f)) (λ t₅ q₅.
         asked (ltb (r .length + f .count) mostEntries) _ _ e₆
         (λ g q. other-told (v .first) (q₀ ∙ q₁ ∙ q₂ ∙ q₃ ∙ q₄ ∙ q₅ ∙ q) tt (propagate-no-room h₁ h₂ handed h₃ m m-is h₄ (v .first) is-first h₅ w G b d t₅ f f-is (ltb-false (r .length + f .count) mostEntries g)))
         (λ t₆ q₆. absurd (h (q₀ ∙ q₁ ∙ q₂ ∙ q₃ ∙ q₄ ∙ q₅ ∙ q₆)))))))))
@@ -194,17 +198,17 @@ module _ {r : Run} {s : State} (R : RunOf r s) (k : Looked) (c l count : ℕ) (�
         let (t₂, z₃) = passed a _ _ e₂ tt z₂ in
         let (t₃, z₄) = passed (v .free) _ _ e₃ tt z₃ in
         let (t₄, z₅) = passed (eqb (v .first) 0) _ _ e₄ tt z₄ in
-        let (t₅, z₆) = passed b _ _ e₅ tt z₅ in
+        let (t₅, z₆) = passed (b .given) _ _ e₅ tt z₅ in
         let (t₆, z₇) = passed (ltb (r .length + f .count) mostEntries) _ _ e₆ tt z₆ in
         (few-new G f-is, ltb-true (r .length + f .count) mostEntries t₆, stored R .few)
 
     -- .. and what is stored is what the rule names.
-    pub propagate-told : n ≡ 0 → (e : Entry) → Recorded e (foreground m (propagated c l (take count ι))) → Told s (Propagate c l (exactly count 0 ι)) (appendedAt r (r .length) e f 0)
+    pub propagate-told : n ≡ 0 → (e : Entry) → Recorded e (foreground m (propagated c l (take count ι))) → Told s (Propagate c l (exactly count 0 ι)) (appendedAt r (r .length) e f 0 b)
     propagate-told o e E =
         let (t₀, z₁) = passed (leb count mostVariables) _ _ e₀ tt o in
         let (t₁, z₂) = passed (not (r .stands)) _ _ e₁ tt z₁ in
         let (t₂, z₃) = passed a _ _ e₂ tt z₂ in
         let (t₃, z₄) = passed (v .free) _ _ e₃ tt z₃ in
         let (t₄, z₅) = passed (eqb (v .first) 0) _ _ e₄ tt z₄ in
-        let (t₅, z₆) = passed b _ _ e₅ tt z₅ in
+        let (t₅, z₆) = passed (b .given) _ _ e₅ tt z₅ in
         propagate-accepted (leb-true count mostVariables t₀) (not-true (r .stands) t₁) handed (is-named t₀ t₂) m m-is (is-free t₃) (v .first) is-first (none (v .first) (eqb-true (v .first) 0 t₄)) w G b d t₅ f f-is (propagate-fits o .1) e E

@@ -1,7 +1,7 @@
 -- What every state reached has, in the code's terms: everything fits its record, and the constraint test takes what it is asked.
 use mathlib.Core.Path.{_≡_, refl, subst, sym}
-use mathlib.Core.Logic.{_⊎_, inl, inr}
-use mathlib.Core.List.{List, List·Memᴰ, List·Memᴰ·append-cases, List·Memᴰ·eq-of-singleton, List·Memᴰ·head, List·Memᴰ·not-nil, List·Memᴰ·tail, Memᴰ·of-map, [], _∷_}
+use mathlib.Core.Logic.{_⊎_, inl, inr, ⊎-elim}
+use mathlib.Core.List.{List, List·Memᴰ, List·Memᴰ·append-cases, List·Memᴰ·eq-of-singleton, List·Memᴰ·head, List·Memᴰ·not-nil, List·Memᴰ·tail, Memᴰ·of-map, [], _++_, _∷_}
 use mathlib.Core.Option.{Option, none, some}
 use mathlib.Core.Bool.{Bool, _&&_, cond, false, true}
 use Prim.Native.Nat.{_+_, _<_, _≤_, suc, zero, ℕ}
@@ -18,13 +18,13 @@ use Rattle.lists.proofs.Tests.{and-l, and-r}
 use Rattle.calculus.proofs.Sound.{inv-run, inv-start, reached-few, restarted-starts}
 use Rattle.calculus.proofs.Instances.{Sized}
 use Rattle.calculus.proofs.Invariant.{Inv, Now, Stands}
-use Rattle.calculus.proofs.Levels.{clause-held, instance-sized}
+use Rattle.calculus.proofs.Levels.{clause-held, cut-tail, instance-sized}
 use Rattle.calculus.proofs.Trails.{Built, StepOk, Tail, empty, group, grown, here, literalBy, there}
 use Rattle.calculus.specs.Class.{InClass, Limited}
 use Rattle.calculus.specs.Clauses.{groundAtoms, renameAtom, under}
 use Rattle.calculus.specs.Tests.{clauseExists, instanceFits, literalExists}
 use Rattle.calculus.specs.States.{State, clauseAt, clauses}
-use Rattle.calculus.specs.Trails.{Entry, Origin, Trail, appendAtoms, atomOnTrail, atomsOf, background, decided, decisions, foreground, isDecision, propagated}
+use Rattle.calculus.specs.Trails.{Entry, Origin, Trail, appendAtoms, atomOnTrail, atomsOf, background, cut, decided, decisions, foreground, isDecision, propagated}
 use Rattle.trail.specs.Entries.{AllShort}
 use Rattle.calculus.specs.Runs.{Reached, Start, plain, restarted}
 use Rattle.calculus.specs.Clauses as calculus
@@ -42,7 +42,7 @@ AllFine cs n [] = Unit {0}
 AllFine cs n (e ∷ t) = Fine cs n e × AllFine cs n t
 
 -- "Instance" means variables replaced by constants: a constant for each variable leaves proper atoms proper.
-pub ground-proper : (n v : ℕ) (τ : List ℕ) → Sized n v τ → (az : List Atom) → ((a : Atom) → List·Memᴰ a az → Proper v a) → (a : Atom) → List·Memᴰ a (groundAtoms τ az) → Proper n a
+ground-proper : (n v : ℕ) (τ : List ℕ) → Sized n v τ → (az : List Atom) → ((a : Atom) → List·Memᴰ a az → Proper v a) → (a : Atom) → List·Memᴰ a (groundAtoms τ az) → Proper n a
 ground-proper n v τ z az h a k = let (b, m, e) = Memᴰ·of-map (renameAtom (under τ)) az k in subst (Proper n) e (proper b (h b m))
   where
     image : (x : ℕ) → x ≤ v → (under τ x ≤ n) × (1 ≤ x → 1 ≤ under τ x)
@@ -73,7 +73,7 @@ fine-tail cs n (here e) f = subst (AllFine cs n) (sym e) f
 fine-tail cs n (there h) f = fine-tail cs n h (f .1)
 
 module _ (arities : List ℕ) (cs : List calculus.Clause) (n : ℕ) (class : (C : calculus.Clause) → List·Memᴰ C cs → InClass arities C) where
-  pub clause-proper : (c : ℕ) (τ : List ℕ) → T (clauseExists cs c) → T (instanceFits n (clauseAt cs c) τ) → (a : Atom) → List·Memᴰ a (groundAtoms τ (clauseAt cs c .atoms)) → Proper n a
+  clause-proper : (c : ℕ) (τ : List ℕ) → T (clauseExists cs c) → T (instanceFits n (clauseAt cs c) τ) → (a : Atom) → List·Memᴰ a (groundAtoms τ (clauseAt cs c .atoms)) → Proper n a
   clause-proper c τ h k = ground-proper n (clauseAt cs c .variables) τ (instance-sized n (clauseAt cs c) τ k) (clauseAt cs c .atoms) (class (clauseAt cs c) (clause-held cs c h) .atoms-proper)
 
   built-fine : {t : Trail} → Built whole cs n t → AllFine cs n t
@@ -95,7 +95,7 @@ decisions-few (e ∷ t) = go (isDecision e) (decisions-few t)
     go true h = omega arith
     go false h = omega arith
 
-pub fine-atoms : (cs : List calculus.Clause) (n : ℕ) (t : Trail) → AllFine cs n t → (a : Atom) → List·Memᴰ a (atomsOf t) → Proper n a
+fine-atoms : (cs : List calculus.Clause) (n : ℕ) (t : Trail) → AllFine cs n t → (a : Atom) → List·Memᴰ a (atomsOf t) → Proper n a
 fine-atoms cs n [] f a k = absurd (List·Memᴰ·not-nil k)
 fine-atoms cs n (foreground l o ∷ t) f a k = fine-atoms cs n t (f .1) a k
 fine-atoms cs n (background b ∷ t) f a k = go (λ k. fine-atoms cs n t (f .1) a k) (List·Memᴰ·append-cases (atomsOf t) k)
@@ -161,6 +161,28 @@ reached-fine s h = record {
 
     stands : (N : calculus.Instanced) → Stands whole (s .arities) (clauses s) from (s .constants) (s .trail) N → FineConflict (s .arities) (s .constants) N
     stands N S = record { class = S .held .class; limited = S .held .limited; sized = S .sized }
+
+-- ---- what a rule asks the constraint test
+
+-- Two lists of proper atoms
+both-proper : {n : ℕ} (t az : List Atom) → ((a : Atom) → List·Memᴰ a t → Proper n a) → ((a : Atom) → List·Memᴰ a az → Proper n a) → (a : Atom) → List·Memᴰ a (t ++ az) → Proper n a
+both-proper t az h k a m = ⊎-elim (h a) (k a) (List·Memᴰ·append-cases t m)
+
+module _ {s : State} (F : FineState s) where
+  -- The trail's atoms and those of a clause that is named are proper, ..
+  pub named-proper : (c : ℕ) (τ : List ℕ) → T (clauseExists (clauses s) c) → T (instanceFits (s .constants) (clauseAt (clauses s) c) τ)
+      → (a : Atom) → List·Memᴰ a (atomsOf (s .trail) ++ groundAtoms τ (clauseAt (clauses s) c .atoms)) → Proper (s .constants) a
+  named-proper c τ h k =
+      both-proper (atomsOf (s .trail)) (groundAtoms τ (clauseAt (clauses s) c .atoms)) (fine-atoms (clauses s) (s .constants) (s .trail) (F .entries))
+      (clause-proper (s .arities) (clauses s) (s .constants) (F .class) c τ h k)
+
+  -- .. and so are those of what a cut keeps and of the conflict that stands.
+  pub kept-proper : (i : ℕ) (N : calculus.Instanced) → FineConflict (s .arities) (s .constants) N
+      → (a : Atom) → List·Memᴰ a (atomsOf (cut i (s .trail)) ++ groundAtoms (N .instance) (N .clause .atoms)) → Proper (s .constants) a
+  kept-proper i N f =
+      both-proper (atomsOf (cut i (s .trail))) (groundAtoms (N .instance) (N .clause .atoms))
+      (fine-atoms (clauses s) (s .constants) (cut i (s .trail)) (fine-tail (clauses s) (s .constants) (cut-tail i (s .trail)) (F .entries)))
+      (ground-proper (s .constants) (N .clause .variables) (N .instance) (f .sized) (N .clause .atoms) (f .class .atoms-proper))
 
 -- No step changes the predicates.
 pub few-predicates : (s : State) → Reached (plain whole) s → length (s .arities) ≤ mostPredicates

@@ -1,7 +1,7 @@
 -- Resolve: the last entry's reason is read off its step, and the limits are counted on the resolvent.
 use mathlib.Core.Path.{_∙_, _≡_, ap, refl, subst, sym}
 use mathlib.Core.List.{List, List·Memᴰ, [], _∷_}
-use mathlib.Core.Option.{some}
+use mathlib.Core.Option.{none, some}
 use mathlib.Core.Bool.{Bool, cond, false, true}
 use Prim.Native.Nat.{_-_, _<_, _≤_, suc, zero, ℕ}
 use native.Mathlib.Omega.{arith}
@@ -12,6 +12,7 @@ use lib.Seq.{take-length}
 use Rattle.basis.specs.Limits.{mostLiterals}
 use Rattle.basis.specs.Refusals.{noEntry, noRoom, noSuch, notFalse, wrongLiteral, wrongMoment}
 use Rattle.basis.specs.declared.Literal.{Literal}
+use Rattle.basis.specs.declared.Witness.{Witness}
 use Rattle.lists.proofs.Tests.{and-l, and-r}
 use Rattle.rules.specs.Answers.{RunOf, Told}
 use Rattle.asking.specs.Looking.{heldAt, lastNamed, lookedAt}
@@ -44,13 +45,14 @@ use Rattle.rules.proofs.Reached.{AllFine, Fine}
 use Rattle.rules.proofs.Asking.{as-told, asked, either-told, no-place, passed}
 use Rattle.rules.proofs.Naming.{looks-named}
 use Rattle.rules.proofs.Runs.{conflict-is, conflict-says, fine, fine-conflict, last-shown, none-shown, stands-shown, with-conflict, within}
-use Rattle.rules.proofs.Told.{accepted-as, nothing-asked, refused}
+use Rattle.rules.proofs.Told.{accepted-as, hands-none, nothing-asked, refused}
 use Rattle.trail.specs.Entries.{entryAs, entryOf, pastEnd, trailOf}
 use Rattle.trail.specs.declared.Kind.{Kind}
 use Rattle.merging.specs.declared.Reason as reasons
 use Rattle.calculus.specs.Clauses as calculus
 use Rattle.trail.specs.declared.Entry as entries
 use Rattle.trail.specs.declared.Kind.the-variants.{Background, Propagated, Decided}
+use Rattle.constraint.specs.Witnesses.{packedWitness}
 
 -- ---- the reason has room
 
@@ -202,10 +204,10 @@ module _ {r : Run} {s : State} (R : RunOf r s) (k : Looked) (l : ℕ) where
               resolve-no-room : m .fits ≡ false → Told s (Resolve l) (refusedBy r noRoom)
               resolve-no-room z = refused R (Resolve l) noRoom tt tt (λ a. simp (stands-shown R e, exists h, last-is p, same d, limits z))
 
-              resolve-accepted : m .fits ≡ true → Told s (Resolve l) (takenUp r (m .of))
-              resolve-accepted z = accepted-as R (Resolve l) true (nothing-asked s (Resolve l) refl)
-                  (rw (stands-shown R e) tt, (rw (exists h) tt, (rw (last-is p) tt, (rw (same d) tt, (rw (limits z) tt, tt)))))
-                  _ (with-conflict R (m .of) M (ap (λ (w : Merged). w .of) merged-is ∙ fitted-of M (sym (fits-is M) ∙ ap (λ (w : Merged). w .fits) (sym merged-is) ∙ z)) ∙ ap packedRun (sym next-is))
+              resolve-accepted : m .fits ≡ true → (w : Witness) → w ≡ packedWitness none → Told s (Resolve l) (takenUp r (m .of) w)
+              resolve-accepted z w w-is = accepted-as R (Resolve l) true (nothing-asked s (Resolve l) refl)
+                  (rw (stands-shown R e) tt, (rw (exists h) tt, (rw (last-is p) tt, (rw (same d) tt, (rw (limits z) tt, tt))))) (hands-none s (Resolve l) refl w-is)
+                  _ (with-conflict R (m .of) w M (ap (λ (w : Merged). w .of) merged-is ∙ fitted-of M (sym (fits-is M) ∙ ap (λ (w : Merged). w .fits) (sym merged-is) ∙ z)) ∙ ap packedRun (sym next-is))
 
   -- The last entry stands in slot j.
   module _ (handed : k ≡ lookedAt s (Resolve l)) (j : ℕ) (j-is : j ≡ r .length - 1) (a b d : Bool) (a-is : a ≡ literalExists (clauseOf (r .conflict .clause)) l) (b-is : b ≡ isPropagated (getD (r .trail) j pastEnd .kind))
@@ -223,15 +225,15 @@ module _ {r : Run} {s : State} (R : RunOf r s) (k : Looked) (l : ℕ) where
         asked (m .fits) _ _ e₅ (λ f q. as-told (q₀ ∙ q₁ ∙ q₂ ∙ q₃ ∙ q₄ ∙ q) (resolve-no-room t₀ (sym a-is ∙ t₁) (ltb-true 0 (r .length) t₂) j j-is (sym b-is ∙ t₃) (sym d-is ∙ t₄) handed m m-is f))
         (λ t₅ q₅. absurd (h (q₀ ∙ q₁ ∙ q₂ ∙ q₃ ∙ q₄ ∙ q₅))))))))
 
-    resolve-told : n ≡ 0 → Told s (Resolve l) (takenUp r (m .of))
-    resolve-told o =
+    resolve-told : (w : Witness) → w ≡ packedWitness none → n ≡ 0 → Told s (Resolve l) (takenUp r (m .of) w)
+    resolve-told w w-is o =
         let (t₀, z₁) = passed (r .stands) _ _ e₀ tt o in
         let (t₁, z₂) = passed a _ _ e₁ tt z₁ in
         let (t₂, z₃) = passed (ltb 0 (r .length)) _ _ e₂ tt z₂ in
         let (t₃, z₄) = passed b _ _ e₃ tt z₃ in
         let (t₄, z₅) = passed d _ _ e₄ tt z₄ in
         let (t₅, z₆) = passed (m .fits) _ _ e₅ tt z₅ in
-        resolve-accepted t₀ (sym a-is ∙ t₁) (ltb-true 0 (r .length) t₂) j j-is (sym b-is ∙ t₃) (sym d-is ∙ t₄) handed m m-is t₅
+        resolve-accepted t₀ (sym a-is ∙ t₁) (ltb-true 0 (r .length) t₂) j j-is (sym b-is ∙ t₃) (sym d-is ∙ t₄) handed m m-is t₅ w w-is
 
-    pub resolve-answered : {o : Stepped} → o ≡ cond (eqb n 0) (takenUp r (m .of)) (cond (eqb n notFalse) (refusedAt r 0) (refusedBy r n)) → Told s (Resolve l) o
-    resolve-answered e = either-told n e resolve-told (λ h. no-place (resolve-refused h))
+    pub resolve-answered : {w : Witness} → w ≡ packedWitness none → {o : Stepped} → o ≡ cond (eqb n 0) (takenUp r (m .of) w) (cond (eqb n notFalse) (refusedAt r 0) (refusedBy r n)) → Told s (Resolve l) o
+    resolve-answered {w} w-is e = either-told n e (resolve-told w w-is) (λ h. no-place (resolve-refused h))

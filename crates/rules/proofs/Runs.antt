@@ -8,6 +8,7 @@ use native.Mathlib.Omega.{arith}
 use lib.Dec.{T, leb, le→leb}
 use lib.ListN.{getD, length, length-append}
 use Rattle.basis.specs.Refusals.{accepted}
+use Rattle.basis.specs.declared.Witness.{Witness}
 use Rattle.basis.specs.Limits.{mostAtoms, mostConstants, mostEntries, mostInput, mostLearned, mostLiterals, mostVariables}
 use Rattle.lists.proofs.Tests.{T→eq, and-i}
 use Rattle.rules.specs.Answers.{Kept, RunOf}
@@ -100,9 +101,9 @@ remade r m k n t f = record { constants = m; input = r .input; learned = r .lear
 abbrev pub restored : Run → List entries.Entry → Run
 restored r es = remade r (r .constants) (r .level) (r .length) es (r .conflict)
 
--- Accepted, with the next run q, and nothing learned
-abbrev pub accepting : Run → Stepped
-accepting q = record { run = q; number = accepted; place = 0; learned = 0 }
+-- Accepted, with the next run q and nothing learned; w is handed on.
+abbrev pub accepting : Run → Witness → Stepped
+accepting q w = record { run = q; number = accepted; place = 0; learned = 0; witness = w }
 
 -- A run record that is that of a state, part by part
 pub packed-as : {q : Run} (s : State) → q .constants ≡ s .constants → q .input ≡ length (s .input) → q .learned ≡ length (s .learned) → q .level ≡ s .level → q .stands ≡ stands (s .conflict)
@@ -140,8 +141,8 @@ split-last es (suc n) h = let e : n ≡ suc n - 1 = omega arith in ap (λ (k : �
 
 module _ {r : Run} {s : State} (R : RunOf r s) where
   -- A state with another conflict
-  pub with-conflict : (n : Instanced) (N : calculus.Instanced) → n ≡ packedInstanced N → takenUp r n .run ≡ packedRun (updated s (s .trail) (s .level) (some N))
-  with-conflict n N h = packed-as (updated s (s .trail) (s .level) (some N)) (constants-is R) (input-is R) (learned-is R) (level-is R) refl (stored R) h
+  pub with-conflict : (n : Instanced) (w : Witness) (N : calculus.Instanced) → n ≡ packedInstanced N → takenUp r n w .run ≡ packedRun (updated s (s .trail) (s .level) (some N))
+  with-conflict n w N h = packed-as (updated s (s .trail) (s .level) (some N)) (constants-is R) (input-is R) (learned-is R) (level-is R) refl (stored R) h
 
 -- ---- what a run shows
 

@@ -1,7 +1,7 @@
 -- The rules that test no atoms and look at no clause: Grow, Skip, Factorize. Each answer in terms of what the code has seen of the run.
 use mathlib.Core.Path.{_∙_, _≡_, ap, refl, subst, sym}
 use mathlib.Core.List.{List, [], _∷_}
-use mathlib.Core.Option.{Option}
+use mathlib.Core.Option.{Option, none}
 use mathlib.Core.Bool.{Bool, _&&_, cond, false, not, true}
 use Prim.Native.Nat.{_+_, _-_, _<_, _≤_, ℕ}
 use native.Mathlib.Omega.{arith}
@@ -10,6 +10,7 @@ use lib.ListN.{getD, length, set}
 use borrow.Author.Tests.{le-leb, leb-false, leb-true, lt-leb, ltb-false, ltb-true, not-false, not-true}
 use Rattle.basis.specs.Limits.{mostConstants}
 use Rattle.basis.specs.Refusals.{noEntry, noRoom, noSuch, notFalse, wrongLiteral, wrongMoment}
+use Rattle.basis.specs.declared.Witness.{Witness}
 use Rattle.rules.specs.Answers.{RunOf, Told}
 use Rattle.rules.specs.Records.{refusedAt, refusedBy, takenUp}
 use Rattle.rules.specs.declared.Run.{Run}
@@ -30,11 +31,12 @@ use Rattle.joining.specs.declared.Merged.{Merged}
 use Rattle.merging.specs.Results.{factorized}
 use Rattle.rules.proofs.Runs.{accepting, conflict-is, conflict-says, constants-is, fine, fine-conflict, input-is, last-shown, learned-is, level-is, no-conflict, none-shown, packed-as, remade, stands-is, stands-shown, stored, with-conflict, within}
 use Rattle.rules.proofs.Asking.{as-told, asked, either-told, no-place, passed}
-use Rattle.rules.proofs.Told.{accepted-as, nothing-asked, refused}
+use Rattle.rules.proofs.Told.{accepted-as, hands-none, nothing-asked, refused}
 use Rattle.trail.proofs.Stored.{dropped, stored-none, stored-own}
 use Rattle.trail.specs.Entries.{Stored, blankEntry, entryOf, packedTrail, pastEnd, trailOf}
 use Rattle.trail.specs.declared.Entry as entries
 use Rattle.calculus.specs.Clauses as calculus
+use Rattle.constraint.specs.Witnesses.{packedWitness}
 
 -- ---- Grow
 
@@ -49,9 +51,10 @@ module _ {r : Run} {s : State} (R : RunOf r s) (n : ℕ) where
     grow-no-room : 1 ≤ n → mostConstants < r .constants + n → Told s (Grow n) (refusedBy r noRoom)
     grow-no-room h f = refused R (Grow n) noRoom tt tt (λ a. simp (stands-shown R e, le-leb 1 n h, lt-leb (s .constants + n) mostConstants (omega (arith, constants-is R))))
 
-    pub grow-accepted : 1 ≤ n → r .constants + n ≤ mostConstants → (es : List entries.Entry) → es ≡ packedTrail [] → Told s (Grow n) (accepting (remade r (r .constants + n) 0 0 es (r .conflict)))
-    grow-accepted h f es b = let free = stands-shown R e in accepted-as R (Grow n) true (nothing-asked s (Grow n) refl)
-        (rw free tt, (le→leb 1 n h, (le→leb (s .constants + n) mostConstants (omega (arith, constants-is R, fine R .few-constants)), tt)))
+    pub grow-accepted : 1 ≤ n → r .constants + n ≤ mostConstants → (es : List entries.Entry) → es ≡ packedTrail [] → (w : Witness) → w ≡ packedWitness none
+        → Told s (Grow n) (accepting (remade r (r .constants + n) 0 0 es (r .conflict)) w)
+    grow-accepted h f es b w w-is = let free = stands-shown R e in accepted-as R (Grow n) true (nothing-asked s (Grow n) refl)
+        (rw free tt, (le→leb 1 n h, (le→leb (s .constants + n) mostConstants (omega (arith, constants-is R, fine R .few-constants)), tt))) (hands-none s (Grow n) refl w-is)
         _ (packed-as (next s (Grow n)) (ap (λ (m : ℕ). m + n) (constants-is R)) (input-is R) (learned-is R) refl e (rw b stored-none)
         (conflict-is R ∙ ap (λ (c : Option calculus.Instanced). packedInstanced (conflictOf c)) (no-conflict (s .conflict) free)))
 
@@ -100,9 +103,9 @@ module _ {r : Run} {s : State} (R : RunOf r s) where
       skip-complement z = refused R Skip wrongLiteral tt tt (λ a. simp (stands-shown R e, last, in-conflict z))
 
       pub skip-accepted : complementInConflict (instancedOf (r .conflict)) (entryOf E ∷ []) ≡ false → (m : ℕ) → m ≡ cond (isDecision (entryOf E)) (r .level - 1) (r .level) → (b : entries.Entry) → b ≡ blankEntry
-          → Told s Skip (accepting (remade r (r .constants) m i (set (r .trail) i b) (r .conflict)))
-      skip-accepted z m j b b-is = accepted-as R Skip true (nothing-asked s Skip refl)
-          (rw (stands-shown R e) tt, (rw last tt, (rw last (rw (in-conflict z) tt), tt)))
+          → (w : Witness) → w ≡ packedWitness none → Told s Skip (accepting (remade r (r .constants) m i (set (r .trail) i b) (r .conflict)) w)
+      skip-accepted z m j b b-is w w-is = accepted-as R Skip true (nothing-asked s Skip refl)
+          (rw (stands-shown R e) tt, (rw last tt, (rw last (rw (in-conflict z) tt), tt))) (hands-none s Skip refl w-is)
           _ (packed-as (next s Skip) (constants-is R) (input-is R) (learned-is R) level (stands-is R) rest (conflict-is R))
         where
           level : m ≡ levelAfterSkip (s .trail) (s .level)
@@ -158,10 +161,10 @@ module _ {r : Run} {s : State} (R : RunOf r s) (i j : ℕ) where
       factorize-differ f = refused R (Factorize i j) wrongLiteral tt tt (λ a. simp (stands-shown R e, shown (Two i j) h, shown (Same i j) f))
 
       factorize-accepted : Same i j (instancedOf (r .conflict)) ≡ true → (m : Merged) → m ≡ factorized (r .conflict) (i - 1) (j - 1)
-          → Told s (Factorize i j) (takenUp r (m .of))
-      factorize-accepted f m g = accepted-as R (Factorize i j) true (nothing-asked s (Factorize i j) refl)
-          (rw (stands-shown R e) tt, (rw (shown (Two i j) h) tt, (rw (shown (Same i j) f) tt, tt)))
-          _ (with-conflict R (m .of) (factored (conflictOf (s .conflict)) (i - 1) (j - 1)) (ap (λ (w : Merged). w .of) is))
+          → (w : Witness) → w ≡ packedWitness none → Told s (Factorize i j) (takenUp r (m .of) w)
+      factorize-accepted f m g w w-is = accepted-as R (Factorize i j) true (nothing-asked s (Factorize i j) refl)
+          (rw (stands-shown R e) tt, (rw (shown (Two i j) h) tt, (rw (shown (Same i j) f) tt, tt))) (hands-none s (Factorize i j) refl w-is)
+          _ (with-conflict R (m .of) w (factored (conflictOf (s .conflict)) (i - 1) (j - 1)) (ap (λ (w : Merged). w .of) is))
         where
           is : m ≡ record { fits = true; of = packedInstanced (factored (conflictOf (s .conflict)) (i - 1) (j - 1)) }
           is = g ∙ ap (λ (n : Instanced). factorized n (i - 1) (j - 1)) (conflict-is R) ∙ factorized-is (conflictOf (s .conflict)) (i - 1) (j - 1) (fine-conflict R e .limited) (fine-conflict R e .sized .size)
@@ -182,5 +185,5 @@ module _ {r : Run} {s : State} (R : RunOf r s) (i j : ℕ) where
         let (t₂, z₃) = passed b _ _ e₂ tt z₂ in
         (t₀, sym a-is ∙ t₁, sym b-is ∙ t₂)
 
-    pub factorize-answered : (m : Merged) → m ≡ factorized (r .conflict) (i - 1) (j - 1) → {o : Stepped} → o ≡ cond (eqb k 0) (takenUp r (m .of)) (cond (eqb k notFalse) (refusedAt r 0) (refusedBy r k)) → Told s (Factorize i j) o
-    factorize-answered m g e = either-told k e (λ z. let (t₀, t₁, t₂) = factorize-passed z in factorize-accepted t₀ t₁ t₂ m g) (λ h. no-place (factorize-refused h))
+    pub factorize-answered : (m : Merged) → m ≡ factorized (r .conflict) (i - 1) (j - 1) → {w : Witness} → w ≡ packedWitness none → {o : Stepped} → o ≡ cond (eqb k 0) (takenUp r (m .of) w) (cond (eqb k notFalse) (refusedAt r 0) (refusedBy r k)) → Told s (Factorize i j) o
+    factorize-answered m g {w} w-is e = either-told k e (λ z. let (t₀, t₁, t₂) = factorize-passed z in factorize-accepted t₀ t₁ t₂ m g w w-is) (λ h. no-place (factorize-refused h))

@@ -1,40 +1,45 @@
--- What the constraint test says of a clause that is named.
-use mathlib.Core.Path.{_∙_, _≡_, refl, subst}
-use mathlib.Core.Logic.{_↔_, _⊎_, inl, inr}
-use mathlib.Core.List.{List, List·Memᴰ, List·Memᴰ·append-cases, _++_}
-use mathlib.Core.Bool.{Bool, true}
-use Prim.Native.Nat.{_+_, _<_, _≤_, ℕ}
+-- What the constraint test says of a rule's question.
+use mathlib.Core.Path.{_∙_, _≡_, refl, subst, sym, transport}
+use mathlib.Core.Logic.{_↔_}
+use mathlib.Core.List.{List, List·Memᴰ, _++_}
+use mathlib.Core.Bool.{true}
+use Prim.Native.Nat.{_+_, _<_, ℕ}
 use native.Mathlib.Omega.{arith}
 use lib.Dec.{T}
 use Rattle.basis.specs.Atoms.{Possible, Proper}
-use Rattle.basis.specs.Limits.{mostConstants}
 use Rattle.basis.specs.declared.Atom.{Atom}
+use Rattle.basis.specs.declared.Witness.{Witness}
 use Rattle.basis.specs.Numbers.{whole}
 use Rattle.rules.specs.Answers.{RunOf}
 use Rattle.rules.specs.declared.Run.{Run}
 use Rattle.calculus.specs.Checks.{between}
 use Rattle.calculus.specs.Clauses.{groundAtoms}
-use Rattle.calculus.specs.Tests.{clauseExists, instanceFits}
-use Rattle.calculus.specs.States.{State, clauseAt, clauses}
+use Rattle.calculus.specs.Handing.{tests}
+use Rattle.calculus.specs.Rules.{question}
+use Rattle.calculus.specs.Tests.{clauseExists}
+use Rattle.calculus.specs.States.{State, Step, clauseAt, clauses}
 use Rattle.calculus.specs.Trails.{Trail, atomsOf}
 use Rattle.clauses.specs.Records.{clauseOf, packed}
 use Rattle.clauses.specs.declared.Clause.{Clause}
-use Rattle.rules.proofs.Naming.{named-proper, named-says, trail-proper}
+use Rattle.rules.proofs.Naming.{named-says}
 use Rattle.rules.proofs.Runs.{constants-is, fine, stored}
+use Rattle.rules.proofs.Told.{HandsBy, hands-shown}
 use Rattle.testing.proofs.Atoms.{tested-says}
-use Rattle.testing.specs.Asked.{Gathers, SaysPossible, testedAtoms}
+use Rattle.testing.specs.Asked.{Gathers, WitnessOf, testedAtoms}
 use Rattle.testing.specs.declared.Tested.{Tested}
 use Rattle.trail.specs.Entries.{trailOf}
 use Rattle.calculus.specs.Clauses as calculus
 
--- The constraint test takes a trail's atoms with those of a class clause's instance, so its yes decides what is asked.
-pub decides : (n : ℕ) (t : List Atom) (az : List Atom) (b : Bool) → n ≤ mostConstants → ((a : Atom) → List·Memᴰ a t → Proper n a) → ((a : Atom) → List·Memᴰ a az → Proper n a)
-    → SaysPossible n (t ++ az) b → T b ↔ Possible whole n (t ++ az)
-decides n t az b few h k d = ((λ z. d .0 z .1), λ P. d .1 (record { few-constants = few; proper = λ a m. go a (List·Memᴰ·append-cases t m) }, P))
-  where
-    go : (a : Atom) → List·Memᴰ a t ⊎ List·Memᴰ a az → Proper n a
-    go a (inl m) = h a m
-    go a (inr m) = k a m
+-- The test is put the question of the step x, and takes its atoms: so its yes decides what is asked, and with it come the numbers that are handed on.
+module _ {r : Run} {s : State} (R : RunOf r s) (x : Step) {az : List Atom} {b : Witness} (d : WitnessOf (r .constants) az b) (together : az ≡ question s x) where
+  said : WitnessOf (s .constants) (question s x) b
+  said = transport (λ i. WitnessOf (constants-is R i) (together i) b) d
+
+  pub decides : ((a : Atom) → List·Memᴰ a (question s x) → Proper (s .constants) a) → T (b .given) ↔ Possible whole (s .constants) (question s x)
+  decides h = ((λ z. said .says .0 z .1), λ P. said .says .1 (record { few-constants = fine R .few-constants; proper = h }, P))
+
+  pub hands : tests x ≡ true → b .given ≡ true → HandsBy s x b
+  hands t e = hands-shown s x t b e (said .shown (subst T (sym e) tt))
 
 pub not-zero : {p : ℕ} → 0 < p → ¬ (p ≡ 0)
 not-zero h e = absurd (omega arith)
@@ -44,10 +49,6 @@ module _ {r : Run} {s : State} (R : RunOf r s) (k : Clause) (c : ℕ) (looks : T
   pub carry : (P : calculus.Clause → Trail → Type 0) → P (clauseOf k) (trailOf (r .trail) (r .length)) → P (clauseAt (clauses s) c) (s .trail)
   carry P h = subst (λ (D : calculus.Clause). P D (s .trail)) (named-says R k c looks e) (subst (λ (t : Trail). P (clauseOf k) t) (stored R .says) h)
 
-  pub tested : (τ : List ℕ) (w : Tested) → Gathers w (atomsOf (trailOf (r .trail) (r .length))) (groundAtoms τ (clauseOf k .atoms)) → (b : Bool) → SaysPossible (r .constants) (testedAtoms w) b
-      → instanceFits (s .constants) (clauseAt (clauses s) c) τ ≡ true → T b ↔ Possible whole (s .constants) (atomsOf (s .trail) ++ groundAtoms τ (clauseAt (clauses s) c .atoms))
-  tested τ w G b d f = decides (s .constants) (atomsOf (s .trail)) (groundAtoms τ (clauseAt (clauses s) c .atoms)) b (fine R .few-constants) (trail-proper R) (named-proper R k c looks e τ f)
-      (subst (λ (n : ℕ). SaysPossible n (atomsOf (s .trail) ++ groundAtoms τ (clauseAt (clauses s) c .atoms)) b) (constants-is R) (subst (λ (az : List Atom). SaysPossible (r .constants) az b) together d))
-    where
-      together : testedAtoms w ≡ atomsOf (s .trail) ++ groundAtoms τ (clauseAt (clauses s) c .atoms)
-      together = tested-says G ∙ carry (λ D t. atomsOf (trailOf (r .trail) (r .length)) ++ groundAtoms τ (clauseOf k .atoms) ≡ atomsOf t ++ groundAtoms τ (D .atoms)) refl
+  pub tested : (τ : List ℕ) (w : Tested) → Gathers w (atomsOf (trailOf (r .trail) (r .length))) (groundAtoms τ (clauseOf k .atoms))
+      → testedAtoms w ≡ atomsOf (s .trail) ++ groundAtoms τ (clauseAt (clauses s) c .atoms)
+  tested τ w G = tested-says G ∙ carry (λ D t. atomsOf (trailOf (r .trail) (r .length)) ++ groundAtoms τ (clauseOf k .atoms) ≡ atomsOf t ++ groundAtoms τ (D .atoms)) refl

@@ -1,7 +1,12 @@
 -- What a rule takes for granted of the run and of what it looks at, and what it answers.
 use mathlib.Core.Path.{_≡_}
+use mathlib.Core.List.{List}
+use mathlib.Core.Option.{Option}
+use Prim.Native.Nat.{ℕ}
+use lib.IntN.{ℤ}
 use Rattle.basis.specs.Numbers.{whole}
 use Rattle.calculus.specs.Conditions.{Judged}
+use Rattle.calculus.specs.Handing.{HandsOn}
 use Rattle.calculus.specs.Rules.{Answer}
 use Rattle.calculus.specs.Runs.{Reached, plain}
 use Rattle.calculus.specs.States.{State, Step}
@@ -16,9 +21,9 @@ pub record RunOf (r : Run) (s : State) : Type 0 where
   pub reached : Reached (plain whole) s
   pub is : r ≡ packedRun s
 
--- The record of the calculus's answer to step x at the state s
+-- The record of the calculus's answer to step x at the state s, and of what the step hands on
 abbrev pub Told : State → Step → Stepped → Type 0
-Told s x a = (b : Answer) × Judged whole s x b × (a ≡ packedAnswer s x b)
+Told s x a = (b : Answer) × (h : Option (List ℤ)) × Judged whole s x b × HandsOn s x (b .number) h × (a ≡ packedAnswer s x b h)
 
 -- Taken for granted by each rule: the run is that of a state reached; and by a rule that looks at the clause table: it is handed what the step
 -- looks at.
@@ -42,3 +47,10 @@ AnswerUnique = (r : Run) (k : Looked) (x : Step) (a b : Stepped) → Handed r k 
 -- .. and so is that of a rule that looks at no clause of the table.
 abbrev pub RunAnswerUnique : Type 0
 RunAnswerUnique = (r : Run) (x : Step) (a b : Stepped) → Kept r → Answers r x a → Answers r x b → a ≡ b
+
+-- What a step hands on is there, where the state was reached, and is unique. Proved in proofs/Handing.antt.
+abbrev pub EveryStepHands : Type 0
+EveryStepHands = (s : State) (x : Step) (b : Answer) → Reached (plain whole) s → Judged whole s x b → (h : Option (List ℤ)) × HandsOn s x (b .number) h
+
+abbrev pub HandsOnce : Type 0
+HandsOnce = (s : State) (x : Step) (number : ℕ) (g h : Option (List ℤ)) → HandsOn s x number g → HandsOn s x number h → g ≡ h

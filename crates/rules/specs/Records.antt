@@ -4,6 +4,7 @@ use mathlib.Core.Option.{Option, none, some}
 use mathlib.Core.Bool.{Bool, true, false, cond}
 use Prim.Native.Nat.{ℕ, zero, suc, _+_, _-_}
 use lib.Dec.{eqb}
+use lib.IntN.{ℤ}
 use lib.ListN.{length, getD, set}
 use Rattle.calculus.specs.Clauses as clauses
 use Rattle.calculus.specs.States as calculus
@@ -11,6 +12,7 @@ use Rattle.calculus.specs.States.{State, conflictOf}
 use Rattle.basis.specs.Refusals.{accepted, notFalse}
 use Rattle.basis.specs.Atoms.{noAtom}
 use Rattle.basis.specs.declared.Atom.{Atom}
+use Rattle.basis.specs.declared.Witness.{Witness}
 use Rattle.calculus.specs.Rules.{Answer, learnsAt}
 use Rattle.calculus.specs.Trails.{background}
 use Rattle.clauses.specs.Records.{instancedOf, packedInstanced}
@@ -20,6 +22,7 @@ use Rattle.trail.specs.declared.Entry.{Entry}
 use Rattle.testing.specs.declared.NewAtoms.{NewAtoms}
 use Rattle.rules.specs.declared.Run.{Run}
 use Rattle.rules.specs.declared.Stepped.{Stepped}
+use Rattle.constraint.specs.Witnesses.{packedWitness}
 
 -- The run record of a state: its predicates and clauses stand beside it. Slots past a count are blank, and so is the conflict where none stands.
 abbrev pub packedRun : State → Run
@@ -39,33 +42,36 @@ abbrev pub conflictSaid : Bool → Instanced → Option clauses.Instanced
 conflictSaid false n = none
 conflictSaid true n = some (instancedOf n)
 
--- The record of an answer to the step x at the state s; an accepted Backtrack learned the conflict that stood.
-abbrev pub packedAnswer : State → calculus.Step → Answer → Stepped
-packedAnswer s x a = record { run = packedRun (a .state); number = a .number; place = a .place; learned = cond (eqb (a .number) accepted) (learnsAt s x) 0 }
+-- The record of an answer to the step x at the state s, with the numbers handed on; an accepted Backtrack learned the conflict that stood.
+abbrev pub packedAnswer : State → calculus.Step → Answer → Option (List ℤ) → Stepped
+packedAnswer s x a h =
+    record { run = packedRun (a .state); number = a .number; place = a .place; learned = cond (eqb (a .number) accepted) (learnsAt s x) 0; witness = packedWitness h }
 
--- "A refused step hands back the state it was given"; 12 names a literal.
+-- "A refused step hands back the state it was given", and no numbers; 12 names a literal.
 abbrev pub refusedBy : Run → ℕ → Stepped
-refusedBy r n = record { run = r; number = n; place = 0; learned = 0 }
+refusedBy r n = record { run = r; number = n; place = 0; learned = 0; witness = packedWitness none }
 
 abbrev pub refusedAt : Run → ℕ → Stepped
-refusedAt r p = record { run = r; number = notFalse; place = p; learned = 0 }
+refusedAt r p = record { run = r; number = notFalse; place = p; learned = 0; witness = packedWitness none }
 
--- Accepted, and n is the conflict that stands
-abbrev pub takenUp : Run → Instanced → Stepped
-takenUp r n = record {
+-- Accepted, and n is the conflict that stands; w is what is handed on.
+abbrev pub takenUp : Run → Instanced → Witness → Stepped
+takenUp r n w = record {
   run = record { constants = r .constants; input = r .input; learned = r .learned; level = r .level; length = r .length; stands = true; trail = r .trail; conflict = n };
   number = accepted;
   place = 0;
   learned = 0;
+  witness = w;
 }
 
--- Accepted, with the first n entries of an array; c is the number under which a clause was learned, or 0.
-abbrev pub lengthened : Run → ℕ → List Entry → ℕ → Stepped
-lengthened r n es c = record {
+-- Accepted, with the first n entries of an array; c is the number under which a clause was learned, or 0, and w what is handed on.
+abbrev pub lengthened : Run → ℕ → List Entry → ℕ → Witness → Stepped
+lengthened r n es c w = record {
   run = record { constants = r .constants; input = r .input; learned = r .learned; level = r .level; length = n; stands = r .stands; trail = es; conflict = r .conflict };
   number = accepted;
   place = 0;
   learned = c;
+  witness = w;
 }
 
 -- The array of n entries without its last d
@@ -78,6 +84,6 @@ abbrev pub withAtoms : List Entry → ℕ → List Atom → ℕ → List Entry
 withAtoms es m az zero = es
 withAtoms es m az (suc j) = set (withAtoms es m az j) (m + suc j) (packedEntry (background (getD az j noAtom)))
 
--- Accepted: the trail is cut to m entries, e is entry m, and the new atoms follow it and are the last; c is as above.
-abbrev pub appendedAt : Run → ℕ → Entry → NewAtoms → ℕ → Stepped
-appendedAt r m e f c = lengthened r (m + f .count + 1) (withAtoms (set (withoutEntries (r .trail) (r .length) (r .length - m)) m e) m (f .at) (f .count)) c
+-- Accepted: the trail is cut to m entries, e is entry m, and the new atoms follow it and are the last; c and w are as above.
+abbrev pub appendedAt : Run → ℕ → Entry → NewAtoms → ℕ → Witness → Stepped
+appendedAt r m e f c w = lengthened r (m + f .count + 1) (withAtoms (set (withoutEntries (r .trail) (r .length) (r .length - m)) m e) m (f .at) (f .count)) c w

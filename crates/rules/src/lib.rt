@@ -37,6 +37,7 @@ use basis::OUT_OF_RANGE;
 use basis::UNKNOWN_RULE;
 use basis::WRONG_LITERAL;
 use basis::WRONG_MOMENT;
+use basis::Witness;
 use clauses::Instanced;
 use clauses::no_instanced;
 use clauses::no_literal;
@@ -52,6 +53,7 @@ use instances::two_literals;
 use testing::NewAtoms;
 use testing::gathered;
 use testing::new_atoms;
+use testing::no_witness;
 use testing::possible;
 use trail::Entry;
 use trail::background_entry;
@@ -76,13 +78,14 @@ pub struct Run {
     pub stands: bool,
 }
 
-// "hands a state back, with a number (0 for accepted) and a place"; and the number under which the conflict that stood was learned, 0 where
-// nothing was.
+// "hands a state back, with a number (0 for accepted) and a place"; the number under which the conflict that stood was learned, 0 where
+// nothing was; and the numbers behind the yes of the step's constraint test, where it was accepted and asked for one.
 pub struct Stepped {
     pub run: Run,
     pub number: u8,
     pub place: u8,
     pub learned: u8,
+    pub witness: Witness,
 }
 
 // "Instance" means variables replaced by constants: a constant for each variable, in order; slots past a count are not looked at.
@@ -94,11 +97,13 @@ type Instance = [u8; MOST_VARIABLES];
 fn refused(run: Run, number: u8) -> Stepped
     ensures { λ a. ⌜ a ≡ refusedBy run number ⌝ }
 {
+    let none = no_witness();
     Stepped {
         run: run,
         number: number,
         place: 0,
         learned: 0,
+        witness: none,
     }
 }
 
@@ -107,19 +112,22 @@ fn refused_at(run: Run, number: u8, first: u8) -> Stepped
     ensures { λ a. ⌜ a ≡ cond (eqb number notFalse) (refusedAt run first) (refusedBy run number) ⌝ }
 {
     if number == NOT_FALSE {
+        let none = no_witness();
         return Stepped {
             run: run,
             number: NOT_FALSE,
             place: first,
             learned: 0,
+            witness: none,
         };
     }
     refused(run, number)
 }
 
-// Accepted where the number is 0: `of` is the conflict that stands; else refused by the number. `first` is the place of 12.
-fn taken_up(run: Run, number: u8, first: u8, of: Instanced) -> Stepped
-    ensures { λ a. ⌜ a ≡ cond (eqb number 0) (takenUp run of) (cond (eqb number notFalse) (refusedAt run first) (refusedBy run number)) ⌝ }
+// Accepted where the number is 0: `of` is the conflict that stands, and the witness is handed on; else refused by the number. `first` is the
+// place of 12.
+fn taken_up(run: Run, number: u8, first: u8, of: Instanced, witness: Witness) -> Stepped
+    ensures { λ a. ⌜ a ≡ cond (eqb number 0) (takenUp run of witness) (cond (eqb number notFalse) (refusedAt run first) (refusedBy run number)) ⌝ }
 {
     if number != 0 {
         return refused_at(run, number, first);
@@ -132,14 +140,22 @@ fn taken_up(run: Run, number: u8, first: u8, of: Instanced) -> Stepped
         number: 0,
         place: 0,
         learned: 0,
+        witness: witness,
     }
 }
 
 // Accepted: the trail is cut to m entries, `own` is entry m, the new atoms follow it and are the last. `learned` is the number under which a
-// clause was learned, or 0.
-fn appended(run: Run, m: usize, own: Entry, fresh: NewAtoms, learned: u8) -> Stepped
+// clause was learned, or 0, and the witness is handed on.
+fn appended(
+    run: Run,
+    m: usize,
+    own: Entry,
+    fresh: NewAtoms,
+    learned: u8,
+    witness: Witness,
+) -> Stepped
     requires { ⌜ (fresh .count ≤ mostAtoms) × (m + fresh .count < mostEntries) × (run .length ≤ mostEntries) ⌝ }
-    ensures { λ a. ⌜ a ≡ appendedAt run m own fresh learned ⌝ }
+    ensures { λ a. ⌜ a ≡ appendedAt run m own fresh learned witness ⌝ }
 {
     let n = fresh.count as usize;
     let blank = blank_entry();
@@ -162,6 +178,7 @@ fn appended(run: Run, m: usize, own: Entry, fresh: NewAtoms, learned: u8) -> Ste
         number: 0,
         place: 0,
         learned: learned,
+        witness: witness,
     }
 }
 
@@ -209,7 +226,7 @@ impl Run {
                             seen.first == 0,
                             NOT_FALSE,
                             refusal(
-                                together,
+                                together.given,
                                 NOT_POSSIBLE,
                                 refusal(m + n < MOST_ENTRIES, NO_ROOM, 0),
                             ),
@@ -222,7 +239,7 @@ impl Run {
             return refused_at(self, number, seen.first);
         }
         let e = propagated_entry(g, c, l, instance, count);
-        appended(self, m, e, fresh, 0)
+        appended(self, m, e, fresh, 0, together)
     }
 
     // "2 Decide (clause, literal, sign, instance). No conflict. The atom of the literal, with the sign given, is undefined. It is appended, k
@@ -278,11 +295,13 @@ impl Run {
         self.trail[m] = decided_entry(g, c, l, positive, instance, count);
         self.length += 1;
         self.level += 1;
+        let none = no_witness();
         Stepped {
             run: self,
             number: 0,
             place: 0,
             learned: 0,
+            witness: none,
         }
     }
 
@@ -322,11 +341,15 @@ impl Run {
                 refusal(
                     named,
                     NO_SUCH,
-                    refusal(first == 0, NOT_FALSE, refusal(together, NOT_POSSIBLE, 0)),
+                    refusal(
+                        first == 0,
+                        NOT_FALSE,
+                        refusal(together.given, NOT_POSSIBLE, 0),
+                    ),
                 ),
             ),
         );
-        taken_up(self, number, first, of)
+        taken_up(self, number, first, of, together)
     }
 
     // "4 Resolve (literal L'). The last entry is a propagated literal, the complement of L'." It looks at the clause of the last entry's step,
@@ -362,7 +385,8 @@ impl Run {
                 ),
             ),
         );
-        taken_up(self, number, 0, of)
+        let none = no_witness();
+        taken_up(self, number, 0, of, none)
     }
 
     // "5 Factorize (two different literals with the same instance). Their variables are merged; the one with the larger number goes."
@@ -382,7 +406,8 @@ impl Run {
                 refusal(same_instance(n, i, j), WRONG_LITERAL, 0),
             ),
         );
-        taken_up(self, number, 0, of)
+        let none = no_witness();
+        taken_up(self, number, 0, of, none)
     }
 
     // "6 Skip. The last entry goes, if it is an atom or if its complement is not in the conflict. A decision skipped lowers k by one."
@@ -408,11 +433,13 @@ impl Run {
         self.level = level_after(e, self.level);
         self.length = k as u8;
         self.trail[k] = blank_entry();
+        let none = no_witness();
         Stepped {
             run: self,
             number: 0,
             place: 0,
             learned: 0,
+            witness: none,
         }
     }
 
@@ -429,6 +456,7 @@ impl Run {
         let trail = self.trail;
         let at = levels(trail, self.length, n, l);
         let tested = gathered(trail, at.kept, c, instance, c.variables);
+        let together = possible(self.constants, tested);
         let fresh = new_atoms(tested);
         let m = fresh.count as usize;
         let kept = at.kept as usize;
@@ -445,7 +473,7 @@ impl Run {
                         at.others < at.own,
                         NOT_ABOVE,
                         refusal(
-                            possible(self.constants, tested),
+                            together.given,
                             KEPT_NOT_POSSIBLE,
                             refusal(
                                 kept + m < MOST_ENTRIES,
@@ -468,7 +496,7 @@ impl Run {
         self.stands = false;
         self.conflict = none;
         let e = propagated_entry(g, own, l, instance, c.variables);
-        appended(self, kept, e, fresh, own)
+        appended(self, kept, e, fresh, own, together)
     }
 
     // "8 Grow (count). No conflict. So many constants are added at the end; trail empty, k is 0."
@@ -494,11 +522,13 @@ impl Run {
         self.level = 0;
         self.length = 0;
         self.trail = blank;
+        let none = no_witness();
         Stepped {
             run: self,
             number: 0,
             place: 0,
             learned: 0,
+            witness: none,
         }
     }
 

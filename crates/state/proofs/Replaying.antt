@@ -17,6 +17,7 @@ use Rattle.calculus.specs.Trails.{Trail, background, decided, foreground, propa
 use Rattle.asking.proofs.Steps.{instance-said}
 use Rattle.asking.specs.Steps.{stepOf}
 use Rattle.asking.specs.declared.Step.{Step}
+use Rattle.rules.proofs.Handing.{every-step-hands}
 use Rattle.rules.proofs.Reached.{fine-short, reached-fine}
 use Rattle.rules.proofs.Runs.{no-conflict}
 use Rattle.trail.proofs.Stored.{row-held}
@@ -60,7 +61,8 @@ code-accepts {s} (x ∷ xs) e R (AcceptedRun.then {x = y} {xs = ys} b j n rest) 
     let first : y ≡ stepOf x = cc in
     let others : map stepOf xs ≡ ys = cc in
     let k = subst (λ q. Judged whole s q b) first j in
-    then x (packedAnswer b) (s, record { reached = R; is = refl }) (answers-so s x b R k) n (code-accepts xs others (steps-keep-reached (plain whole) s (stepOf x) b R k) rest)
+    let (h, handed) = every-step-hands s (stepOf x) b R k in
+    then x (packedAnswer b h) (s, record { reached = R; is = refl }) (answers-so s x b h R k handed) n (code-accepts xs others (steps-keep-reached (plain whole) s (stepOf x) b R k) rest)
 
 again-reached : (s : states.State) → Reached (plain whole) s → Reached (plain whole) (restarted s)
 again-reached s R = start-reached (plain whole) (restarted s) (restarted-starts whole s R)

@@ -2,11 +2,13 @@
 use mathlib.Core.Path.{_≡_, refl, sym, ap, subst, _∙_}
 use mathlib.Core.List.{List, [], _∷_, _++_, map, append-assoc, map-append, reverse}
 use mathlib.Core.Logic.{_⊎_, inl, inr}
+use mathlib.Core.Option.{Option}
 use mathlib.Core.Bool.{Bool, true, false, cond}
 use Prim.Native.Nat.{ℕ, zero, suc, _+_, _-_, _≤_, _<_}
 use native.Mathlib.Decide.{ℕ-discrete, decLt}
 use native.Mathlib.Omega.{arith}
 use lib.Dec.{eqb, ltb}
+use lib.IntN.{ℤ}
 use lib.ListN.{List·getD-eq-default, List·getD-map, length, getD, set, length-append, length-map}
 use borrow.Author.Tests.{eq-eqb, le-leb, le-ltb, lt-leb, lt-ltb, ne-eqb}
 use Rattle.calculus.specs.Checks.{between}
@@ -17,6 +19,7 @@ use Rattle.lists.specs.Arrays.{exactly}
 use Rattle.lists.proofs.Arrays.{exactly-length, getD-any, getD-exactly, set-exactly}
 use Rattle.calculus.specs.Clauses as calculus
 use Rattle.calculus.specs.Conditions.{Judged}
+use Rattle.calculus.specs.Handing.{HandsOn}
 use Rattle.calculus.specs.Rules.{Answer, learnsAt, next}
 use Rattle.calculus.specs.Runs as runs
 use Rattle.calculus.specs.Runs.{plain}
@@ -166,10 +169,10 @@ module _ {run : Run} {s : states.State} (R : RunOf run s) (y : states.Step) (a :
 
   -- There is room for what is learned.
   room : length (clauses (b .state)) ≤ mostClauses
-  room = let f = reached-fine (b .state) (steps-keep-reached (plain whole) s y b (R .reached) (told .1)) in omega (arith, length-append (b .state .input) (b .state .learned), f .few-input, f .few-learned)
+  room = let f = reached-fine (b .state) (steps-keep-reached (plain whole) s y b (R .reached) (told .2)) in omega (arith, length-append (b .state .input) (b .state .learned), f .few-input, f .few-learned)
 
   learned-as : {n : ℕ} → n ≡ cond (eqb (b .number) accepted) (learnsAt s y) 0 → a .learned ≡ n
-  learned-as e = ap (λ (q : Stepped). q .learned) (told .2) ∙ sym e
+  learned-as e = ap (λ (q : Stepped). q .learned) (told .4) ∙ sym e
 
   abbrev Changes : Type 0
   Changes = (a .learned ≤ mostClauses) × ((table : List Clause) → table ≡ packedTable (clauses s) → tableAfter table run a ≡ packedTable (clauses (b .state)))
@@ -195,8 +198,8 @@ module _ {run : Run} {s : states.State} (R : RunOf run s) (y : states.Step) (a :
 
   changes : Changes
   changes = elim (ℕ-discrete (b .number) accepted) [
-    | yes e ↦ went (told .1 .next-state e) (learned-as (sym (rw (eq-eqb (b .number) accepted e)))) (learns s y)
-    | no e ↦ none (learned-as (sym (rw (ne-eqb (b .number) accepted e)))) (ap clauses (told .1 .handed-back e))
+    | yes e ↦ went (told .2 .next-state e) (learned-as (sym (rw (eq-eqb (b .number) accepted e)))) (learns s y)
+    | no e ↦ none (learned-as (sym (rw (ne-eqb (b .number) accepted e)))) (ap clauses (told .2 .handed-back e))
   ]
     where
       went : b .state ≡ next s y → a .learned ≡ learnsAt s y → ((learnsAt s y ≡ 0) × (clauses (next s y) ≡ clauses s)) ⊎ ((learnsAt s y ≡ suc (length (clauses s))) × (clauses (next s y) ≡ clauses s ++ (conflictOf (s .conflict) .clause ∷ []))) → Changes
@@ -222,22 +225,27 @@ module _ {r : State} {s : states.State} (S : StateOf r s) where
 
   -- The next run with its table, beside predicates that no step changes
   pub step-answers : (x : Step) (a : Stepped) (told : Told s (stepOf x) a) (table : List Clause) → table ≡ tableAfter (r .table) (r .run) a
-      → (c : Answer) × Judged whole s (stepOf x) c ×
-      (_≡_ {A = Answered} (record { state = record { run = a .run; predicates = r .predicates; arities = r .arities; table = table }; number = a .number; place = a .place }) (packedAnswer c))
+      → (c : Answer) × (h : Option (List ℤ)) × Judged whole s (stepOf x) c × HandsOn s (stepOf x) (c .number) h ×
+      (_≡_ {A = Answered}
+      (record { state = record { run = a .run; predicates = r .predicates; arities = r .arities; table = table }; number = a .number; place = a .place; witness = a .witness })
+      (packedAnswer c h))
   step-answers x a told table new = (
     told .0,
     told .1,
+    told .2,
+    told .3,
     λ i. record {
       state = record {
-        run = told .2 i .run;
+        run = told .4 i .run;
         predicates = (ap (λ (q : State). q .predicates) (S .is) ∙ ap length (sym arities)) i;
         arities = (ap (λ (q : State). q .arities) (S .is) ∙ ap (exactly mostPredicates 0) (sym arities)) i;
         table = (new ∙ table-after run-of (stepOf x) a told table-is) i;
       };
-      number = told .2 i .number;
-      place = told .2 i .place;
+      number = told .4 i .number;
+      place = told .4 i .place;
+      witness = told .4 i .witness;
     },
   )
     where
       arities : told .0 .state .arities ≡ s .arities
-      arities = run-input (runs.then (told .0) (told .1) (runs.over refl)) .1
+      arities = run-input (runs.then (told .0) (told .2) (runs.over refl)) .1

@@ -1,9 +1,12 @@
 -- The record of a whole state, what admission makes and what a step answers.
 use mathlib.Core.Path.{_≡_}
 use mathlib.Core.List.{List, [], map}
-use mathlib.Core.Bool.{cond, false}
+use mathlib.Core.Logic.{_↔_}
+use mathlib.Core.Option.{Option}
+use mathlib.Core.Bool.{_&&_, cond, false}
 use Prim.Native.Nat.{ℕ, _-_, _≤_}
-use lib.Dec.{eqb, ltb}
+use lib.Dec.{T, eqb, ltb}
+use lib.IntN.{ℤ}
 use lib.ListN.{length, set}
 use Rattle.admission.specs.Offered as admission
 use Rattle.basis.specs.Limits.{mostClauses, mostInput, mostPredicates}
@@ -13,8 +16,8 @@ use Rattle.lists.specs.Arrays.{exactly}
 use Rattle.calculus.specs.Admission.{Admitted, admissionRefusal, fresh}
 use Rattle.calculus.specs.Clauses as calculus
 use Rattle.calculus.specs.Conditions.{Judged}
-use Rattle.calculus.specs.Rules.{Answer}
-use Rattle.calculus.specs.Runs as runs
+use Rattle.calculus.specs.Handing.{HandsOn, tests}
+use Rattle.calculus.specs.Rules.{Answer, question}
 use Rattle.calculus.specs.Runs.{Reached, plain}
 use Rattle.calculus.specs.States as states
 use Rattle.calculus.specs.States.{clauses}
@@ -22,6 +25,7 @@ use Rattle.clauses.specs.Records.{packed, packedInstanced}
 use Rattle.clauses.specs.declared.Clause.{Clause}
 use Rattle.rules.specs.Records.{packedRun}
 use Rattle.asking.specs.Steps.{stepOf}
+use Rattle.bounds.specs.Choices.{Checked}
 use Rattle.rules.specs.declared.Run.{Run}
 use Rattle.asking.specs.declared.Step.{Step}
 use Rattle.rules.specs.declared.Stepped.{Stepped}
@@ -29,6 +33,7 @@ use Rattle.trail.specs.Entries.{packedTrail}
 use Rattle.state.specs.declared.State.{State}
 use Rattle.state.specs.declared.Answered.{Answered}
 use Rattle.state.specs.declared.Opened.{Opened}
+use Rattle.constraint.specs.Witnesses.{noNumbers, packedNumbers, packedWitness}
 
 -- The table of the input clauses and the learned ones after them, blank past them
 unfoldable pub packedTable : List calculus.Clause → List Clause
@@ -43,8 +48,9 @@ packedState s = record {
   table = packedTable (clauses s);
 }
 
-abbrev pub packedAnswer : Answer → Answered
-packedAnswer a = record { state = packedState (a .state); number = a .number; place = a .place }
+-- The record of an answer, with the numbers handed on
+abbrev pub packedAnswer : Answer → Option (List ℤ) → Answered
+packedAnswer a h = record { state = packedState (a .state); number = a .number; place = a .place; witness = packedWitness h }
 
 -- A record is that of one state reached at most. Proved in proofs/Packing.antt.
 abbrev pub PackingInjective : Type 0
@@ -58,9 +64,10 @@ pub record StateOf (r : State) (s : states.State) : Type 0 where
 abbrev pub Made : State → Type 0
 Made r = (s : states.State) × StateOf r s
 
--- What `step` promises: the calculus's answer, of every such state.
+-- What `step` promises: the calculus's answer, and what the step hands on, of every such state.
 abbrev pub Answers : State → Step → Answered → Type 0
-Answers r x a = (s : states.State) → StateOf r s → (b : Answer) × Judged whole s (stepOf x) b × (a ≡ packedAnswer b)
+Answers r x a =
+    (s : states.State) → StateOf r s → (b : Answer) × (h : Option (List ℤ)) × Judged whole s (stepOf x) b × HandsOn s (stepOf x) (b .number) h × (a ≡ packedAnswer b h)
 
 -- ---- admission
 
@@ -119,3 +126,15 @@ EveryStepAnswered = (r : State) (x : Step) → Made r → (a : Answered) × Answ
 -- The answer is unique. Proved in proofs/Runs.antt.
 abbrev pub AnswerUnique : Type 0
 AnswerUnique = (r : State) (x : Step) (a b : Answered) → Made r → Answers r x a → Answers r x b → a ≡ b
+
+-- ---- the numbers handed on
+
+-- Numbers are given exactly by an accepted step of a rule that tests, and then a reader can check them by hand: they keep the order and make every
+-- atom true that the rule asked about. Proved in proofs/Runs.antt.
+pub record HandedOn (s : states.State) (x : Step) (a : Answered) : Type 0 where
+  pub exactly-if : T (a .witness .given) ↔ T (eqb (a .number) accepted && tests (stepOf x))
+  pub checked : T (a .witness .given) → (numbers : List ℤ) × (a .witness .numbers ≡ packedNumbers numbers) × Checked (s .constants) (question s (stepOf x)) numbers
+  pub blank : ¬ T (a .witness .given) → a .witness .numbers ≡ noNumbers
+
+abbrev pub StepHandsOn : Type 0
+StepHandsOn = (r : State) (s : states.State) (x : Step) (a : Answered) → StateOf r s → Answers r x a → HandedOn s x a

@@ -16,6 +16,7 @@ use asking::slot_of;
 use basis::MOST_CLAUSES;
 use basis::MOST_INPUT;
 use basis::MOST_PREDICATES;
+use basis::Witness;
 use clauses::Clause;
 use clauses::no_clause;
 use clauses::no_instanced;
@@ -31,11 +32,13 @@ pub struct State {
     table: [Clause; MOST_CLAUSES],
 }
 
-// "hands a state back, with a number (0 for accepted) and a place"
+// "hands a state back, with a number (0 for accepted) and a place"; and the numbers behind the yes of the step's constraint test, where it
+// was accepted and asked for one
 pub struct Answered {
     pub state: State,
     pub number: u8,
     pub place: u8,
+    pub witness: Witness,
 }
 
 // What admission hands back: a state; or the refusal's number and place. "A refused file yields no state": no enum holds an array, so that some
@@ -176,6 +179,7 @@ impl State {
             _ => run.unknown(rule),
         };
         let next = a.run;
+        let witness = a.witness;
         let learned = a.learned as usize;
         let mut state = self;
         state.run = next;
@@ -188,6 +192,7 @@ impl State {
             state: state,
             number: a.number,
             place: a.place,
+            witness: witness,
         }
     }
 

@@ -7,11 +7,16 @@ use Prim.Native.Nat.{ℕ, _+_, _≤_}
 use lib.Dec.{T}
 use lib.ListN.{length, take, drop}
 use Rattle.basis.specs.declared.Atom.{Atom}
+use Rattle.basis.specs.declared.Witness.{Witness}
 use Rattle.basis.specs.Limits.{mostConstants, mostEntries, mostAtoms, mostTested}
 use Rattle.basis.specs.Numbers.{whole}
 use Rattle.basis.specs.Atoms.{noAtom, Proper, Possible}
 use Rattle.lists.specs.Arrays.{exactly}
 use Rattle.calculus.specs.Trails.{Entry, foreground, background}
+use Rattle.constraint.specs.Test.{NumbersIn}
+use Rattle.constraint.specs.Witnesses.{noNumbers}
+use Rattle.constraint.specs.declared.Answer.{Answer}
+use Rattle.constraint.specs.declared.Answer.the-variants.{Yes, No, Refused}
 use Rattle.testing.specs.declared.Tested.{Tested}
 
 abbrev pub isBackground : Entry → Bool
@@ -61,6 +66,18 @@ pub record Testable (constants : ℕ) (atoms : List Atom) : Type 0 where
 abbrev pub SaysPossible : ℕ → List Atom → Bool → Type 0
 SaysPossible constants atoms b = T b ↔ (Testable constants atoms × Possible whole constants atoms)
 
--- There is one such answer. Proved in proofs/Asked.antt.
-abbrev pub SaysPossibleOnce : Type 0
-SaysPossibleOnce = (constants : ℕ) (atoms : List Atom) (b c : Bool) → SaysPossible constants atoms b → SaysPossible constants atoms c → b ≡ c
+-- Whether an answer is yes
+abbrev pub isYes : Answer → Bool
+isYes Yes = true
+isYes No = false
+isYes (Refused number place) = false
+
+-- Numbers are given with a yes alone, and they are those behind it.
+pub record WitnessOf (constants : ℕ) (atoms : List Atom) (w : Witness) : Type 0 where
+  pub says : SaysPossible constants atoms (w .given)
+  pub shown : T (w .given) → NumbersIn constants atoms (w .numbers)
+  pub blank : ¬ T (w .given) → w .numbers ≡ noNumbers
+
+-- There is one such record. Proved in proofs/Asked.antt.
+abbrev pub WitnessOnce : Type 0
+WitnessOnce = (constants : ℕ) (atoms : List Atom) (v w : Witness) → WitnessOf constants atoms v → WitnessOf constants atoms w → v ≡ w

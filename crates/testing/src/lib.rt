@@ -7,13 +7,17 @@ ghost use Rattle.calculus.specs.Clauses.{groundAtoms};
 ghost use Rattle.calculus.specs.Trails.{atomsOf};
 ghost use Rattle.clauses.specs.Records.{clauseOf};
 ghost use Rattle.trail.specs.Entries.{entryOf, trailOf};
-ghost use Rattle.testing.specs.Asked.{isBackground, testedAtoms, knownAtoms, stepAtoms, Gathers, InRoom, SaysPossible};
+ghost use mathlib.Core.Option.{none};
+ghost use Rattle.testing.specs.Asked.{isBackground, testedAtoms, knownAtoms, stepAtoms, isYes, Gathers, InRoom, WitnessOf};
 ghost use Rattle.testing.specs.New.{newAtoms, packedNew};
+ghost use Rattle.constraint.specs.Witnesses.{packedWitness};
 use basis::Atom;
 use basis::MOST_ATOMS;
+use basis::MOST_CONSTANTS;
 use basis::MOST_ENTRIES;
 use basis::MOST_TESTED;
 use basis::MOST_VARIABLES;
+use basis::Witness;
 use clauses::Clause;
 use clauses::atoms_of;
 use clauses::ground_atom;
@@ -90,17 +94,38 @@ pub fn gathered(
     tested
 }
 
-// Whether the atoms are such as the constraint test takes, and together possible
-pub fn possible(constants: u8, tested: Tested) -> bool
-    requires { ⌜ tested .count ≤ mostTested ⌝ }
-    ensures { λ r. ⌜ SaysPossible constants (testedAtoms tested) r ⌝ }
+// No numbers
+pub fn no_witness() -> Witness
+    ensures { λ r. ⌜ r ≡ packedWitness none ⌝ }
 {
-    let atoms = tested.atoms;
-    let answer = constraint::possible(constants, tested.count, atoms);
+    Witness {
+        given: false,
+        numbers: [0i32; MOST_CONSTANTS],
+    }
+}
+
+fn is_yes(answer: Answer) -> bool
+    ensures { λ r. ⌜ r ≡ isYes answer ⌝ }
+{
     match answer {
         Answer::Yes => true,
         Answer::No => false,
         Answer::Refused { number, place } => false,
+    }
+}
+
+// Whether the atoms are such as the constraint test takes, and together possible; and the numbers behind its yes
+pub fn possible(constants: u8, tested: Tested) -> Witness
+    requires { ⌜ tested .count ≤ mostTested ⌝ }
+    ensures { λ r. ⌜ WitnessOf constants (testedAtoms tested) r ⌝ }
+{
+    let atoms = tested.atoms;
+    let found = constraint::possible(constants, tested.count, atoms);
+    let answer = found.answer;
+    let numbers = found.numbers;
+    Witness {
+        given: is_yes(answer),
+        numbers: numbers,
     }
 }
 

@@ -7,16 +7,16 @@ use Rattle.rules.proofs.appended.Statement.{statement}
 use Rattle.rules.proofs.appended.Tie as tie
 
 abbrev Inv-loop : tie.InvT-loop
-Inv-loop m own learned fresh n blank next₀ k₀ next k = Cuts next₀ next m k
+Inv-loop m own learned witness fresh n blank next₀ k₀ next k = Cuts next₀ next m k
 
 abbrev μ-loop : tie.MeasureT-loop
-μ-loop m own learned fresh n blank next₀ k₀ next k = k
+μ-loop m own learned witness fresh n blank next₀ k₀ next k = k
 
 abbrev Inv-loop2 : tie.InvT-loop2
-Inv-loop2 m learned fresh n next₀ k j₀ next j = Grows next₀ next fresh m j
+Inv-loop2 m learned witness fresh n next₀ k j₀ next j = Grows next₀ next fresh m j
 
 abbrev μ-loop2 : tie.MeasureT-loop2
-μ-loop2 m learned fresh n next₀ k j₀ next j = n - j
+μ-loop2 m learned witness fresh n next₀ k j₀ next j = n - j
 
 loop-holds : tie.Need-loop-holds Inv-loop μ-loop Inv-loop2 μ-loop2
 loop-holds c = cuts-start _ _
@@ -34,7 +34,7 @@ loop2-again : tie.Need-loop2-again Inv-loop μ-loop Inv-loop2 μ-loop2
 loop2-again c = grows-turn (c .before .before .before .loop2 .inv) (c .before .before .loop2-test .taken) (omega arith) (c .background-entry .ensures)
 
 returns : tie.Need-returns Inv-loop μ-loop Inv-loop2 μ-loop2
-returns c = appended-all _ (c .before .before .before .loop .inv) (c .before .before .loop-test .left) (c .before .loop2 .inv) (c .loop2-test .left) _ _
+returns c = appended-all _ (c .before .before .before .loop .inv) (c .before .before .loop-test .left) (c .before .loop2 .inv) (c .loop2-test .left) _ _ _
 
 pub appended-spec : {M : Type 1} → statement M
 appended-spec =

@@ -12,11 +12,11 @@ levels-requires c κs = kept-small (c .before .before .before .before .pre) .few
 gathered-requires : tie.Need-gathered-requires
 gathered-requires c κs = omega (arith, kept-small (c .before .before .before .before .before .pre) .few-entries, kept-below (c .before .before .before .before .before .args .self) (c .before .before .before .before .before .args .l) (c .levels .ensures))
 
-new-atoms-requires : tie.Need-new-atoms-requires
-new-atoms-requires c κs = in-room (c .gathered .ensures)
-
 possible-requires : tie.Need-possible-requires
-possible-requires c κs = in-room (c .before .before .before .before .before .before .gathered .ensures) .few
+possible-requires c κs = in-room (c .gathered .ensures) .few
+
+new-atoms-requires : tie.Need-new-atoms-requires
+new-atoms-requires c κs = in-room (c .before .gathered .ensures)
 
 returns : tie.Need-returns
 returns c =
@@ -28,11 +28,11 @@ returns c =
     let at-refusal3 = at-refusal4 .before in
     let at-refusal2 = at-refusal3 .before in
     let at-refusal = at-refusal2 .before in
-    let at-possible = at-refusal .before .before in
-    let at-again = at-possible .before .before in
+    let at-again = at-refusal .before .before .before in
     let at-literal-exists = at-again .before in
     let at-new-atoms = at-literal-exists .before .before .before in
-    let at-gathered = at-new-atoms .before in
+    let at-possible = at-new-atoms .before in
+    let at-gathered = at-possible .before in
     let at-levels = at-gathered .before in
     rw (c .refused .ensures) (λ s R. backtrack-refused R _ _ _ (at-literal-exists .literal-exists .ensures) (at-again .again .ensures) _ (at-levels .levels .ensures) _ (at-gathered .gathered .ensures) (at-possible .possible .result) (at-possible .possible .ensures) _ (at-new-atoms .new-atoms .ensures)
     (at-refusal .refusal .ensures) (at-refusal2 .refusal2 .ensures) (at-refusal3 .refusal3 .ensures) (at-refusal4 .refusal4 .ensures) (at-refusal5 .refusal5 .ensures) (at-refusal6 .refusal6 .ensures) (at-refusal7 .refusal7 .ensures) (at-if1 .if1 .taken))
@@ -57,11 +57,11 @@ appended-requires c κs =
     let at-refusal3 = at-refusal4 .before in
     let at-refusal2 = at-refusal3 .before in
     let at-refusal = at-refusal2 .before in
-    let at-possible = at-refusal .before .before in
-    let at-again = at-possible .before .before in
+    let at-again = at-refusal .before .before .before in
     let at-literal-exists = at-again .before in
     let at-new-atoms = at-literal-exists .before .before .before in
-    let at-gathered = at-new-atoms .before in
+    let at-possible = at-new-atoms .before in
+    let at-gathered = at-possible .before in
     let at-levels = at-gathered .before in
     let first = at-levels .before .before .before .before .before in
     let h = backtrack-fits (first .pre .1) _ _ _ (at-literal-exists .literal-exists .ensures) (at-again .again .ensures) _ (at-levels .levels .ensures) _ (at-gathered .gathered .ensures) (at-possible .possible .result) (at-possible .possible .ensures) _ (at-new-atoms .new-atoms .ensures)
@@ -80,11 +80,11 @@ returns-2 c =
     let at-refusal3 = at-refusal4 .before in
     let at-refusal2 = at-refusal3 .before in
     let at-refusal = at-refusal2 .before in
-    let at-possible = at-refusal .before .before in
-    let at-again = at-possible .before .before in
+    let at-again = at-refusal .before .before .before in
     let at-literal-exists = at-again .before in
     let at-new-atoms = at-literal-exists .before .before .before in
-    let at-gathered = at-new-atoms .before in
+    let at-possible = at-new-atoms .before in
+    let at-gathered = at-possible .before in
     let at-levels = at-gathered .before in
     rw (c .appended .ensures) (λ s R. backtrack-told R _ _ _ (at-literal-exists .literal-exists .ensures) (at-again .again .ensures) _ (at-levels .levels .ensures) _ (at-gathered .gathered .ensures) (at-possible .possible .result) (at-possible .possible .ensures) _ (at-new-atoms .new-atoms .ensures)
     (at-refusal .refusal .ensures) (at-refusal2 .refusal2 .ensures) (at-refusal3 .refusal3 .ensures) (at-refusal4 .refusal4 .ensures) (at-refusal5 .refusal5 .ensures) (at-refusal6 .refusal6 .ensures) (at-refusal7 .refusal7 .ensures) (at-if1 .if1 .left) _ (at-conflict-instance .conflict-instance .ensures) _ (at-propagated-entry .propagated-entry .ensures) _ (at-no-instanced .no-instanced .ensures))
@@ -95,12 +95,12 @@ backtrack-spec =
     (tie.spec
     levels-requires
     gathered-requires
+    possible-requires
     new-atoms-requires
     (λ c. search needs)
     (λ c. search needs)
     (λ c κs. search needs)
     (λ c κs. search needs)
-    possible-requires
     (λ c. search needs)
     (λ c. search needs)
     (λ c κs. search needs)

@@ -89,13 +89,13 @@ unknown-requires : tie.Need-unknown-requires
 unknown-requires c κs = kept (c .before)
 
 element-set-from-clause : tie.Need-element-set-from-clause
-element-set-from-clause c = omega (arith, c .before .before .if1 .taken, slot-free (run-of (c .before .before .before .before .before .before .before .before .before .before .before .before .before .before .pre .1)) _ _ (answered (c .before .before .before .before .before) _ (run-of (c .before .before .before .before .before .before .before .before .before .before .before .before .before .before .pre .1)) (looked-is (c .before .before .before .before .before .before) (c .before .before .before .before .before .before .before .before .before .before .before .before .before .before .pre .1))))
+element-set-from-clause c = omega (arith, c .before .before .if1 .taken, slot-free (run-of (c .before .before .before .before .before .before .before .before .before .before .before .before .before .before .before .pre .1)) _ _ (answered (c .before .before .before .before .before .before) _ (run-of (c .before .before .before .before .before .before .before .before .before .before .before .before .before .before .before .pre .1)) (looked-is (c .before .before .before .before .before .before .before) (c .before .before .before .before .before .before .before .before .before .before .before .before .before .before .before .pre .1))))
 
 returns : tie.Need-returns
-returns c = λ s S. step-answers S (c .before .before .before .before .before .before .before .before .before .before .before .before .before .before .args .x) _ (answered (c .before .before .before .before .before) s (run-of S) (looked-is (c .before .before .before .before .before .before) S)) _ (table-written (c .before .before .before .before .before .before .before .before .before .before .before .before .before .before .args .t1 .table) (c .before .before .before .before .before .before .before .before .before .before .before .before .before .before .args .t1 .run) (c .before .before .before .before .before .match .a) (c .before .before .if1 .taken))
+returns c = λ s S. step-answers S (c .before .before .before .before .before .before .before .before .before .before .before .before .before .before .before .args .x) _ (answered (c .before .before .before .before .before .before) s (run-of S) (looked-is (c .before .before .before .before .before .before .before) S)) _ (table-written (c .before .before .before .before .before .before .before .before .before .before .before .before .before .before .before .args .t1 .table) (c .before .before .before .before .before .before .before .before .before .before .before .before .before .before .before .args .t1 .run) (c .before .before .before .before .before .before .match .a) (c .before .before .if1 .taken))
 
 returns-2 : tie.Need-returns-2
-returns-2 c = λ s S. step-answers S (c .before .before .before .before .before .before .before .before .before .before .before .before .args .x) _ (answered (c .before .before .before) s (run-of S) (looked-is (c .before .before .before .before) S)) _ (table-left (c .before .before .before .before .before .before .before .before .before .before .before .before .args .t1 .table) (c .before .before .before .before .before .before .before .before .before .before .before .before .args .t1 .run) (c .before .before .before .match .a) (c .if1 .left))
+returns-2 c = λ s S. step-answers S (c .before .before .before .before .before .before .before .before .before .before .before .before .before .args .x) _ (answered (c .before .before .before .before) s (run-of S) (looked-is (c .before .before .before .before .before) S)) _ (table-left (c .before .before .before .before .before .before .before .before .before .before .before .before .before .args .t1 .table) (c .before .before .before .before .before .before .before .before .before .before .before .before .before .args .t1 .run) (c .before .before .before .before .match .a) (c .if1 .left))
 
 pub step-spec : {M : Type 1} → statement M
 step-spec =
