@@ -1,7 +1,8 @@
-// The program: reads a run file from standard input and prints its listing.
+// The program: reads a run file from standard input and prints its listing. It takes no words.
 use judging::MOST_LISTING;
 use judging::Written;
 use streams::Read;
+use words::Program;
 
 // "A valid file is below 65,536 bytes; the program reads no more."
 const MOST_READ: usize = 65535;
@@ -23,6 +24,11 @@ fn print_listing(file: &[u8]) {
 }
 
 fn main() {
+    let words = streams::words(Program::Judge);
+    if 0 < words.unknown {
+        streams::tell_unknown(b"judge", words.unknown);
+        return;
+    }
     let mut file = [0u8; MOST_READ];
     let read = streams::read_input(b"judge", &mut file);
     match read {

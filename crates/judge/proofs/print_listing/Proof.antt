@@ -1,15 +1,13 @@
 -- `judge::print_listing` stays within its bounds and ends.
 use mathlib.Core.Path.{sym}
 use lib.Seq.{length-take-le}
-use Rattle.listing.specs.Lines.{lastLine}
-use Rattle.listing.specs.Listing.{mostListing}
-use Rattle.judging.proofs.Judging.{within}
+use Rattle.judging.proofs.Judging.{lists-within}
 use borrow.Author.Needs.{needs}
 use Rattle.judge.proofs.print_listing.Statement.{statement}
 use Rattle.judge.proofs.print_listing.Tie as tie
 
 array-share-prefix-text : tie.Need-array-share-prefix-text
-array-share-prefix-text c = within lastLine mostListing _ _ _ _ _ (c .before .before .written .given .1) (c .before .before .before .before .before .judge .ensures)
+array-share-prefix-text c = rw (c .before .before .written .given .1) at (lists-within _ _ _ (c .before .before .before .before .before .judge .result) (c .before .before .before .before .before .judge .ensures))
 
 slice-aggregate-print-2 : tie.Need-slice-aggregate-print-2
 slice-aggregate-print-2 c = sym (length-take-le _ _ (array-share-prefix-text (c .before)))
