@@ -9,7 +9,7 @@ use lib.IntN.{ℤ}
 use lib.ListN.{length}
 use lib.Seq.{sets}
 use Rattle.basis.specs.Refusals.{tooManyRows}
-use Rattle.judging.specs.Judging.{Lists, Shows}
+use Rattle.judging.specs.Judging.{Lists, Shows, ShowsNumbers}
 use Rattle.judging.specs.declared.Written.{Written}
 use Rattle.judging.specs.declared.Written.the-variants.{Bytes, Short}
 use Rattle.lookup.specs.declared.Match.{Match}
@@ -39,12 +39,19 @@ Judges s d l d′ l′ r = (a : Written) × Lists s d d′ a × (r ≡ count a) 
 abbrev pub Inspects : (s d l d′ l′ : List ℕ) → ℕ → Type 0
 Inspects s d l d′ l′ r = (a : Written) × Shows s d d′ a × (r ≡ count a) × (l′ ≡ noted a l)
 
+-- `drf_inspect_numbers` of the file s, with the buffer d and the slice l
+abbrev pub InspectsNumbers : (s d l d′ l′ : List ℕ) → ℕ → Type 0
+InspectsNumbers s d l d′ l′ r = (a : Written) × ShowsNumbers s d d′ a × (r ≡ count a) × (l′ ≡ noted a l)
+
 -- The numbers, and what every lent byte holds afterwards, are unique. Proved in proofs/Unique.antt.
 abbrev pub JudgesOnce : Type 0
 JudgesOnce = (s d l d₁ d₂ l₁ l₂ : List ℕ) (r₁ r₂ : ℕ) → Judges s d l d₁ l₁ r₁ → Judges s d l d₂ l₂ r₂ → (r₁ ≡ r₂) × (d₁ ≡ d₂) × (l₁ ≡ l₂)
 
 abbrev pub InspectsOnce : Type 0
 InspectsOnce = (s d l d₁ d₂ l₁ l₂ : List ℕ) (r₁ r₂ : ℕ) → Inspects s d l d₁ l₁ r₁ → Inspects s d l d₂ l₂ r₂ → (r₁ ≡ r₂) × (d₁ ≡ d₂) × (l₁ ≡ l₂)
+
+abbrev pub InspectsNumbersOnce : Type 0
+InspectsNumbersOnce = (s d l d₁ d₂ l₁ l₂ : List ℕ) (r₁ r₂ : ℕ) → InspectsNumbers s d l d₁ l₁ r₁ → InspectsNumbers s d l d₂ l₂ r₂ → (r₁ ≡ r₂) × (d₁ ≡ d₂) × (l₁ ≡ l₂)
 
 -- ---- clauses from lookup tables
 

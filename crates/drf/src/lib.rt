@@ -1,7 +1,7 @@
 // Judging, and clauses from lookup tables, for programs in C or Rust: slices are lent, and the answer is numbers.
 ghost use mathlib.Core.Path.{_≡_};
 ghost use Prim.Native.Nat.{_<_};
-ghost use Rattle.drf.specs.Export.{Inspects, Judges, Tables, count, matchOf, noted, tableCode};
+ghost use Rattle.drf.specs.Export.{Inspects, InspectsNumbers, Judges, Tables, count, matchOf, noted, tableCode};
 use judging::Written;
 use lookup::Match;
 use lookup::Tabled;
@@ -57,6 +57,16 @@ pub extern "C" fn drf_inspect(file: &[u8], out: &mut [u8], ends: &mut [u64]) -> 
     ensures { λ r. ⌜ Inspects (now (file .entry)) (now (out .entry)) (now (ends .entry)) (now (out .exit)) (now (ends .exit)) r ⌝ }
 {
     let answer = judging::inspect(file, out);
+    note(answer, ends);
+    counted(answer)
+}
+
+// The same, with the numbers that accepted steps hand on
+#[no_mangle]
+pub extern "C" fn drf_inspect_numbers(file: &[u8], out: &mut [u8], ends: &mut [u64]) -> u64
+    ensures { λ r. ⌜ InspectsNumbers (now (file .entry)) (now (out .entry)) (now (ends .entry)) (now (out .exit)) (now (ends .exit)) r ⌝ }
+{
+    let answer = judging::inspect_numbers(file, out);
     note(answer, ends);
     counted(answer)
 }

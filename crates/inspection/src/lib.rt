@@ -2,7 +2,7 @@
 // the caller sees to the room.
 ghost use Prim.Native.Nat.{_+_, _*_, _≤_, _<_};
 ghost use lib.ListN.{length, take};
-ghost use Rattle.basis.specs.Limits.{mostEntries, mostClauses};
+ghost use Rattle.basis.specs.Limits.{mostEntries, mostClauses, mostConstants};
 ghost use Rattle.clauses.specs.Counts.{Counts};
 ghost use Rattle.clauses.specs.Records.{clauseOf};
 ghost use Rattle.trail.specs.Entries.{entryOf};
@@ -10,8 +10,10 @@ ghost use Rattle.rules.specs.Records.{conflictSaid};
 ghost use Rattle.clausetext.specs.ClauseText.{inTurn};
 ghost use Rattle.clausetext.specs.Room.{Put};
 ghost use Rattle.inspection.specs.StateText.{stepText, entryText, entryLine, clauseLine, firstLine, conflictText, conflictLine};
+ghost use Rattle.inspection.specs.NumbersText.{listedNumber, mostListedNumber, mostNumbersLine, numbersLine};
 ghost use Rattle.inspection.specs.Writing.{mostRule, mostStep, mostEntry, mostEntryLine, mostClauseLine, mostFirstLine, mostConflict, mostConflictLine, mostState, entryLineOf, clauseLineOf, Beside, PutsState};
 use basis::MOST_CLAUSES;
+use basis::MOST_CONSTANTS;
 use basis::MOST_ENTRIES;
 use clauses::Clause;
 use clauses::Instanced;
@@ -23,6 +25,7 @@ use clausetext::put_number;
 use clausetext::put_small;
 use rules::Run;
 use text::put_byte;
+use text::put_signed;
 use text::put_word;
 use trail::Entry;
 use trail::Kind;
@@ -193,4 +196,34 @@ pub fn put_state(out: &mut [u8], at: usize, run: Run, table: [Clause; MOST_CLAUS
     let entries = put_trail(out, first, trail, run.length);
     let clauses = put_clauses(out, entries, table, count);
     put_conflict_line(out, clauses, run.stands, conflict)
+}
+
+// ---- numbers
+
+fn put_listed_number(out: &mut [u8], at: usize, n: i32) -> usize
+    requires { ⌜ at + mostListedNumber ≤ length (now out) ⌝ }
+    ensures { λ r. ⌜ Put mostListedNumber (now (out .entry)) at (listedNumber 0 n) (now (out .exit)) r ⌝ }
+{
+    let number = put_byte(out, at, b' ');
+    put_signed(out, number, n)
+}
+
+// The line of the numbers behind a yes, one for each constant
+pub fn put_numbers(
+    out: &mut [u8],
+    at: usize,
+    constants: u8,
+    numbers: [i32; MOST_CONSTANTS],
+) -> usize
+    requires { ⌜ (constants ≤ mostConstants) × (at + mostNumbersLine ≤ length (now out)) ⌝ }
+    ensures { λ r. ⌜ Put mostNumbersLine (now (out .entry)) at (numbersLine (take constants numbers)) (now (out .exit)) r ⌝ }
+{
+    let n = constants as usize;
+    let mut next = put_word(out, at, b"numbers");
+    let mut j: usize = 0;
+    while j < n {
+        next = put_listed_number(out, next, numbers[j]);
+        j += 1;
+    }
+    put_byte(out, next, b'\n')
 }

@@ -5,7 +5,7 @@ use mathlib.Core.Bool.{Bool, true, false}
 use Prim.Native.Nat.{ℕ, _+_, _-_, _*_, _≤_, _<_}
 use native.Mathlib.Omega.{arith}
 use lib.ListN.{length, getD, drop-of-length-le}
-use Rattle.basis.specs.Limits.{mostClauses}
+use Rattle.basis.specs.Limits.{mostClauses, mostConstants}
 use Rattle.basis.specs.Numbers.{whole}
 use Rattle.basis.specs.Refusals.{accepted}
 use Rattle.lists.specs.Arrays.{exactly}
@@ -32,22 +32,28 @@ use Rattle.asking.specs.declared.Looked.{Looked}
 use Rattle.rules.specs.declared.Run.{Run}
 use Rattle.asking.specs.declared.Step.{Step}
 use Rattle.rules.specs.declared.Stepped.{Stepped}
-use Rattle.rules.proofs.Runs.{Small, kept-small}
+use Rattle.rules.proofs.Runs.{kept-small}
 use Rattle.steps.specs.Records.{fileAnswer, stepAnswer}
 use Rattle.steps.specs.declared.StepRead.{StepRead}
 use Rattle.steps.proofs.Files.{Ahead, Reads, Stepping, file-reads, step-ahead}
 use Rattle.state.specs.States.{newRun, packedTable, tableAfter}
 use Rattle.state.proofs.Table.{looks-at, table-after}
 use Rattle.text.specs.Text.{Wrote}
+use Rattle.clausetext.specs.Room.{Put}
 use Rattle.text.proofs.Text.{and-then, as-text, same-long}
 use Rattle.listing.specs.Lines.{acceptedLine, mostLine, refusedLine}
-use Rattle.listing.specs.Listing.{Tried, went, refused, through}
+use Rattle.listing.specs.Listing.{TriedWith, went, refused, through}
 use Rattle.listing.proofs.Lines.{length-accepted, length-refused}
 use Rattle.trail.specs.Entries.{pastEnd}
-use Rattle.judging.specs.Running.{mostText, placeOf}
+use Rattle.judging.specs.Running.{beneath, mostBeneath, mostText, placeOf, textBeneath}
+use Rattle.judging.proofs.Numbers.{told-beneath}
+
+-- The most bytes of a step's line and what stands beneath it
+abbrev pub mostOf : Bool → ℕ
+mostOf numbered = mostLine + mostBeneath numbered
 
 -- j of n steps have been tried and accepted: the others stand ahead of the cursor, and whatever comes of them completes what was tried.
-pub record SoFar (s d : List ℕ) (n : ℕ) (d′ : List ℕ) (run : Run) (table : List Clause) (cursor at j : ℕ) : Type 0 where
+pub record SoFar (numbered : Bool) (s d : List ℕ) (n : ℕ) (d′ : List ℕ) (run : Run) (table : List Clause) (cursor at j : ℕ) : Type 0 where
   pub says : File
   pub next : ℕ
   pub is : file s ≡ got says next
@@ -60,36 +66,37 @@ pub record SoFar (s d : List ℕ) (n : ℕ) (d′ : List ℕ) (run : Run) (table
   pub table-is : table ≡ packedTable (clauses state)
   pub lines : List ℕ
   pub wrote : Wrote d 0 lines d′ at
-  pub short : at ≤ j * mostLine
-  pub on : (v : List ℕ) (e : Answer) → Tried (plain whole) state (j + 1) others v e → Tried (plain whole) (opened says) 1 (says .steps) (lines ++ v) e
+  pub short : at ≤ j * mostOf numbered
+  pub on : (v : List ℕ) (e : Answer) → TriedWith (plain whole) (beneath numbered) state (j + 1) others v e → TriedWith (plain whole) (beneath numbered) (opened says) 1 (says .steps) (lines ++ v) e
 
 -- "One line per step tried .. It stops at a refused step." The steps of the file s were tried from the state on that its header makes; their
 -- lines stand in the buffer from its first byte on; and run and table are the records of the state that stands, number and place those of the
 -- last answer.
-pub record Ran (s d d′ : List ℕ) (run : Run) (table : List Clause) (number place at : ℕ) : Type 0 where
+pub record Ran (numbered : Bool) (s d d′ : List ℕ) (run : Run) (table : List Clause) (number place at : ℕ) : Type 0 where
   pub says : File
   pub next : ℕ
   pub is : file s ≡ got says next
   pub lines : List ℕ
   pub answer : Answer
-  pub tried : Tried (plain whole) (opened says) 1 (says .steps) lines answer
+  pub tried : TriedWith (plain whole) (beneath numbered) (opened says) 1 (says .steps) lines answer
   pub wrote : Wrote d 0 lines d′ at
-  pub short : at ≤ mostSteps * mostLine
+  pub short : at ≤ mostSteps * mostOf numbered
   pub run-is : run ≡ packedRun (answer .state)
   pub table-is : table ≡ packedTable (clauses (answer .state))
   pub number-is : number ≡ answer .number
   pub place-is : place ≡ answer .place
   pub reached : Reached (plain whole) (answer .state)
 
-pub ran-as : {s d d₁ d₂ : List ℕ} {run : Run} {table : List Clause} {k₁ k₂ p₁ p₂ at₁ at₂ : ℕ} → Ran s d d₁ run table k₁ p₁ at₁ → d₂ ≡ d₁ → at₂ ≡ at₁ → k₂ ≡ k₁ → p₂ ≡ p₁ → Ran s d d₂ run table k₂ p₂ at₂
-ran-as {s} {d} {run = run} {table} ran e a k p = transport⁻¹ (λ i. Ran s d (e i) run table (k i) (p i) (a i)) ran
+pub ran-as : {numbered : Bool} {s d d₁ d₂ : List ℕ} {run : Run} {table : List Clause} {k₁ k₂ p₁ p₂ at₁ at₂ : ℕ} → Ran numbered s d d₁ run table k₁ p₁ at₁
+    → d₂ ≡ d₁ → at₂ ≡ at₁ → k₂ ≡ k₁ → p₂ ≡ p₁ → Ran numbered s d d₂ run table k₂ p₂ at₂
+ran-as {numbered} {s} {d} {run = run} {table} ran e a k p = transport⁻¹ (λ i. Ran numbered s d (e i) run table (k i) (p i) (a i)) ran
 
 -- ---- before the first step
 
-pub start : (s d : List ℕ) (h : HeaderRead) (first : ℕ) {run : Run} {table : List Clause} → h ≡ fileAnswer s → h .at ≡ C.At first
-    → run ≡ newRun (h .constants) (h .input) → table ≡ exactly mostClauses (packed calculus.noClause) (map packed (inputOf (header s 0))) → SoFar s d (h .steps) d run table first 0 0
+pub start : (numbered : Bool) (s d : List ℕ) (h : HeaderRead) (first : ℕ) {run : Run} {table : List Clause} → h ≡ fileAnswer s → h .at ≡ C.At first
+    → run ≡ newRun (h .constants) (h .input) → table ≡ exactly mostClauses (packed calculus.noClause) (map packed (inputOf (header s 0))) → SoFar numbered s d (h .steps) d run table first 0 0
 unfolding packedTable
-start s d h first {run} {table} e q r t = record {
+start numbered s d h first {run} {table} e q r t = record {
   says = F;
   next = f .next;
   is = f .is;
@@ -114,15 +121,28 @@ start s d h first {run} {table} e q r t = record {
 
 -- ---- a turn
 
--- Every text has room for the steps' lines.
-steps-fit : (b : Bool) → mostSteps * mostLine ≤ mostText b
-steps-fit true = omega arith
-steps-fit false = omega arith
+-- There is room for one step more: for its line and what stands beneath it.
+step-fits : (numbered shown : Bool) (j : ℕ) {at l : ℕ} → at ≤ j * mostOf numbered → j < mostSteps → mostText numbered shown ≤ l → at + mostOf numbered ≤ l
+step-fits true true j h k r = omega arith
+step-fits true false j h k r = omega arith
+step-fits false true j h k r = omega arith
+step-fits false false j h k r = omega arith
 
-module _ {s d d′ : List ℕ} {n cursor at j : ℕ} {run : Run} {table : List Clause} (S : SoFar s d n d′ run table cursor at j) where
+one-more : (numbered : Bool) (j : ℕ) {at k : ℕ} → at ≤ j * mostOf numbered → k ≤ at + mostOf numbered → k ≤ (j + 1) * mostOf numbered
+one-more true j h g = omega arith
+one-more false j h g = omega arith
+
+all-tried : (numbered : Bool) (j : ℕ) {at : ℕ} → at ≤ j * mostOf numbered → j ≤ mostSteps → at ≤ mostSteps * mostOf numbered
+all-tried true j h k = omega arith
+all-tried false j h k = omega arith
+
+module _ {numbered : Bool} {s d d′ : List ℕ} {n cursor at j : ℕ} {run : Run} {table : List Clause} (S : SoFar numbered s d n d′ run table cursor at j) where
+  step-room : j < n → (shown : Bool) → mostText numbered shown ≤ length d → at + mostOf numbered ≤ length d′
+  step-room h shown k = omega (arith, step-fits numbered shown j {l = length d} (S .short) (omega (arith, S .few)) k, same-long (S .wrote))
+
   -- There is room for one line more.
-  pub line-fits : j < n → (b : Bool) → mostText b ≤ length d → (j + 1 ≤ mostSteps) × (at + mostLine ≤ length d′)
-  line-fits h b k = (omega (arith, S .few), omega (arith, S .few, S .short, same-long (S .wrote), steps-fit b))
+  pub line-fits : j < n → (shown : Bool) → mostText numbered shown ≤ length d → (j + 1 ≤ mostSteps) × (at + mostLine ≤ length d′)
+  line-fits h shown k = (omega (arith, S .few), omega (arith, step-room h shown k))
 
   pub kept : Kept run
   kept = (S .state, S .run-of)
@@ -151,28 +171,30 @@ module _ {s d d′ : List ℕ} {n cursor at j : ℕ} {run : Run} {table : List C
     b = told .0
 
     next-reached : Reached (plain whole) (b .state)
-    next-reached = steps-keep-reached (plain whole) (S .state) (stepOf (r .step)) b (S .run-of .reached) (told .1)
+    next-reached = steps-keep-reached (plain whole) (S .state) (stepOf (r .step)) b (S .run-of .reached) (told .2)
 
     number-is : a .number ≡ b .number
-    number-is = ap (λ (q : Stepped). q .number) (told .2)
+    number-is = ap (λ (q : Stepped). q .number) (told .4)
 
     -- A refused step: its line is the last, and nothing more is tried; run and table are as they were.
     pub stop : ¬ (a .number ≡ 0) → {d₂ : List ℕ} {at₂ : ℕ} → Wrote d′ at (refusedLine (j + 1) (stepOf (r .step)) (a .number)) d₂ at₂
-        → Ran s d d₂ run table (a .number) (a .place) at₂
+        → Ran numbered s d d₂ run table (a .number) (a .place) at₂
     stop z {d₂} {at₂} w = record {
       says = S .says;
       next = S .next;
       is = S .is;
       lines = S .lines ++ line (a .number);
       answer = b;
-      tried = S .on (line (a .number)) b (subst (λ (xs : List states.Step). Tried (plain whole) (S .state) (j + 1) xs (line (a .number)) b) others-is
-          (subst (λ (k : ℕ). Tried (plain whole) (S .state) (j + 1) (x ∷ now .others) (line k) b) (sym number-is) (refused b (told .1) (λ q. z (number-is ∙ q)))));
+      tried = S .on (line (a .number)) b (subst (λ (xs : List states.Step). TriedWith (plain whole) (beneath numbered) (S .state) (j + 1) xs (line (a .number)) b) others-is
+          (subst (λ (k : ℕ). TriedWith (plain whole) (beneath numbered) (S .state) (j + 1) (x ∷ now .others) (line k) b) (sym number-is) (refused b (told .2) (λ q. z (number-is ∙ q)))));
       wrote = and-then (S .wrote) w;
-      short = omega (arith, w .next, S .short, S .few, length-refused (j + 1) x (a .number) (omega (arith, S .few)) (omega (arith, number-is, number-in-table whole (S .state) x b (told .1))));
+      short = all-tried numbered (j + 1)
+          (one-more numbered j (S .short) (omega (arith, w .next, length-refused (j + 1) x (a .number) (omega (arith, S .few)) (omega (arith, number-is, number-in-table whole (S .state) x b (told .2))))))
+          (omega (arith, S .few));
       run-is = S .run-of .is ∙ ap packedRun (sym back);
       table-is = S .table-is ∙ ap (λ (q : states.State). packedTable (clauses q)) (sym back);
       number-is = number-is;
-      place-is = ap (λ (q : Stepped). q .place) (told .2);
+      place-is = ap (λ (q : Stepped). q .place) (told .4);
       reached = next-reached;
     }
       where
@@ -183,13 +205,33 @@ module _ {s d d′ : List ℕ} {n cursor at j : ℕ} {run : Run} {table : List C
         line k = refusedLine (j + 1) x k
 
         back : b .state ≡ S .state
-        back = told .1 .handed-back (λ q. z (number-is ∙ q))
+        back = told .2 .handed-back (λ q. z (number-is ∙ q))
 
-    -- An accepted one: its line follows the others, and what it learned stands in the table.
+    -- The record of the next state, and how long the step's line is
+    module _ {run₂ : Run} (ran : run₂ ≡ a .run) where
+      run-next : RunOf run₂ (b .state)
+      run-next = record { reached = next-reached; is = ran ∙ ap (λ (q : Stepped). q .run) (told .4) }
+
+      line-length : length (acceptedLine (j + 1) (stepOf (r .step)) (run₂ .length) (run₂ .level)) ≤ mostLine
+      line-length =
+          let small = kept-small (b .state, run-next) in
+          length-accepted (j + 1) (stepOf (r .step)) (run₂ .length) (run₂ .level) (omega (arith, S .few)) (omega (arith, small .few-entries)) (omega (arith, small .few-entries, small .few-decisions))
+
+    few-constants : run .constants ≤ mostConstants
+    few-constants = kept-small kept .few-constants
+
+    -- Beneath it there is room.
+    pub beneath-fits : (shown : Bool) → mostText numbered shown ≤ length d → {run₂ : Run} → run₂ ≡ a .run
+        → {d₁ : List ℕ} {at₁ : ℕ} → Wrote d′ at (acceptedLine (j + 1) (stepOf (r .step)) (run₂ .length) (run₂ .level)) d₁ at₁
+        → (run .constants ≤ mostConstants) × (at₁ + mostBeneath numbered ≤ length d₁)
+    beneath-fits shown room ran w = (few-constants, omega (arith, step-room h shown room, line-length ran, w .next, same-long w))
+
+    -- An accepted one: its line follows the others, and beneath it what it handed on; what it learned stands in the table.
     pub turn : a .number ≡ 0 → {run₂ : Run} → run₂ ≡ a .run → {table₂ : List Clause} → table₂ ≡ tableAfter table run a
-        → {d₂ : List ℕ} {at₂ : ℕ} → Wrote d′ at (acceptedLine (j + 1) (stepOf (r .step)) (run₂ .length) (run₂ .level)) d₂ at₂ → {cursor₂ : ℕ} → cursor₂ ≡ placeOf (r .at)
-        → SoFar s d n d₂ run₂ table₂ cursor₂ at₂ (j + 1)
-    turn z {run₂} ran {table₂} table-new w past = record {
+        → {d₁ d₂ : List ℕ} {at₁ at₂ : ℕ} → Wrote d′ at (acceptedLine (j + 1) (stepOf (r .step)) (run₂ .length) (run₂ .level)) d₁ at₁
+        → Put (mostBeneath numbered) d₁ at₁ (textBeneath numbered (run .constants) (a .witness)) d₂ at₂ → {cursor₂ : ℕ} → cursor₂ ≡ placeOf (r .at)
+        → SoFar numbered s d n d₂ run₂ table₂ cursor₂ at₂ (j + 1)
+    turn z {run₂} ran {table₂} table-new w u past = record {
       says = S .says;
       next = S .next;
       is = S .is;
@@ -198,19 +240,13 @@ module _ {s d d′ : List ℕ} {n cursor at j : ℕ} {run : Run} {table : List C
       count = omega (arith, S .count, ap length (now .all));
       few = S .few;
       state = b .state;
-      run-of = run-next;
+      run-of = run-next ran;
       table-is = table-new ∙ table-after (S .run-of) x a told (S .table-is);
-      lines = S .lines ++ line (b .state);
-      wrote = and-then (S .wrote) (as-text (λ i. acceptedLine (j + 1) x (run-next .is i .length) (run-next .is i .level)) w);
-      short = omega (
-        arith,
-        w .next,
-        S .short,
-        length-accepted (j + 1) x (run₂ .length) (run₂ .level) (omega (arith, S .few))
-            (omega (arith, small .few-entries)) (omega (arith, small .few-entries, small .few-decisions)),
-      );
-      on = λ v e t. subst (λ (l : List ℕ). Tried (plain whole) (opened (S .says)) 1 (S .says .steps) l e) (sym (append-assoc (S .lines) (line (b .state)) v))
-          (S .on (line (b .state) ++ v) e (subst (λ (xs : List states.Step). Tried (plain whole) (S .state) (j + 1) xs (line (b .state) ++ v) e) others-is (went b (told .1) (sym number-is ∙ z) t)));
+      lines = S .lines ++ (line (b .state) ++ under);
+      wrote = and-then (S .wrote) (and-then (as-text (λ i. acceptedLine (j + 1) x (run-next ran .is i .length) (run-next ran .is i .level)) w) (u .wrote));
+      short = one-more numbered j (S .short) (omega (arith, u .room, w .next, line-length ran));
+      on = λ v e t. subst (λ (l : List ℕ). TriedWith (plain whole) (beneath numbered) (opened (S .says)) 1 (S .says .steps) l e) (grouped v)
+          (S .on (line (b .state) ++ (under ++ v)) e (subst (λ (xs : List states.Step). TriedWith (plain whole) (beneath numbered) (S .state) (j + 1) xs (line (b .state) ++ (under ++ v)) e) others-is (went b (told .2) (sym number-is ∙ z) stands-beneath t)));
     }
       where
         x : states.Step
@@ -219,25 +255,31 @@ module _ {s d d′ : List ℕ} {n cursor at j : ℕ} {run : Run} {table : List C
         line : states.State → List ℕ
         line q = acceptedLine (j + 1) x (length (q .trail)) (q .level)
 
-        run-next : RunOf run₂ (b .state)
-        run-next = record { reached = next-reached; is = ran ∙ ap (λ (q : Stepped). q .run) (told .2) }
+        under : List ℕ
+        under = textBeneath numbered (run .constants) (a .witness)
 
-        small : Small run₂
-        small = kept-small (b .state, run-next)
+        constants-is : run .constants ≡ S .state .constants
+        constants-is = ap (λ (q : Run). q .constants) (S .run-of .is)
+
+        stands-beneath : beneath numbered (S .state) x under
+        stands-beneath = told-beneath (S .state) (omega (arith, few-constants, constants-is)) x numbered (told .1) (told .3) (sym number-is ∙ z) constants-is (ap (λ (q : Stepped). q .witness) (told .4))
+
+        grouped : (v : List ℕ) → S .lines ++ (line (b .state) ++ (under ++ v)) ≡ (S .lines ++ (line (b .state) ++ under)) ++ v
+        grouped v = simp append-assoc
 
 -- ---- after the last step
 
-pub done : {s d d′ : List ℕ} {n cursor at j : ℕ} {run : Run} {table : List Clause} → SoFar s d n d′ run table cursor at j → n ≤ j
-    → Ran s d d′ run table 0 0 at
-done {j = j} S h = record {
+pub done : {numbered : Bool} {s d d′ : List ℕ} {n cursor at j : ℕ} {run : Run} {table : List Clause} → SoFar numbered s d n d′ run table cursor at j → n ≤ j
+    → Ran numbered s d d′ run table 0 0 at
+done {numbered} {j = j} S h = record {
   says = S .says;
   next = S .next;
   is = S .is;
   lines = S .lines;
   answer = last;
-  tried = rw append-nil at (S .on [] last (subst (λ (xs : List states.Step). Tried (plain whole) (S .state) (j + 1) xs [] last) (sym (drop-of-length-le (S .others) {i = 0} (omega (arith, S .count)))) through));
+  tried = rw append-nil at (S .on [] last (subst (λ (xs : List states.Step). TriedWith (plain whole) (beneath numbered) (S .state) (j + 1) xs [] last) (sym (drop-of-length-le (S .others) {i = 0} (omega (arith, S .count)))) through));
   wrote = S .wrote;
-  short = omega (arith, S .short, S .few, S .count);
+  short = all-tried numbered j (S .short) (omega (arith, S .few, S .count));
   run-is = S .run-of .is;
   table-is = S .table-is;
   number-is = refl;

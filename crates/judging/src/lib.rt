@@ -1,20 +1,24 @@
 // A whole run file judged into a lent buffer.
 ghost use mathlib.Core.Path.{_≡_};
-ghost use Prim.Native.Nat.{_≤_};
+ghost use Prim.Native.Nat.{_+_, _≤_};
 ghost use lib.ListN.{length};
+ghost use Rattle.basis.specs.Limits.{mostConstants};
 ghost use Rattle.basis.specs.Numbers.{whole};
 ghost use Rattle.calculus.specs.Runs.{plain};
 ghost use Rattle.fields.specs.declared.Cursor.the-variants as C;
+ghost use Rattle.clausetext.specs.Room.{Put};
 ghost use Rattle.steps.specs.Records.{fileAnswer};
-ghost use Rattle.judging.specs.Judging.{Leaves, Lists, Shows};
-ghost use Rattle.judging.specs.Running.{ending, mostText, placeOf};
+ghost use Rattle.judging.specs.Judging.{Leaves, Lists, Shows, ShowsNumbers};
+ghost use Rattle.judging.specs.Running.{beneath, ending, mostBeneath, mostText, placeOf, textBeneath};
 use asking::last_slot;
 use asking::looked_at;
 use asking::number_looked;
 use asking::slot_of;
+use basis::Witness;
 use fields::Cursor;
 use header::HeaderRead;
 use header::read_clauses;
+use inspection::put_numbers;
 use inspection::put_state;
 use listing::put_accepted;
 use listing::put_bad;
@@ -41,6 +45,9 @@ pub const MOST_LISTING: usize = 54008;
 // No inspection has more: the listing, a line for each of 160 entries and 96 clauses, and two more.
 pub const MOST_INSPECTION: usize = 136078;
 
+// No inspection with numbers has more: a line of them for each of 2,000 steps besides.
+pub const MOST_WITH_NUMBERS: usize = 536078;
+
 // ---- the steps
 
 // Where a cursor stands, or was refused
@@ -53,11 +60,33 @@ fn place_of(at: Cursor) -> usize
     }
 }
 
-// Tries the steps of a file that is in order, a line for each. "It stops at a refused step." Then comes the last line, and the final state if
-// it is to be shown. The table stays here: what a step looks at is copied out of it, and what it learns is written there.
-fn run_steps(file: &[u8], head: HeaderRead, first: usize, out: &mut [u8], shown: bool) -> Written
-    requires { ⌜ (head ≡ fileAnswer (now file)) × (head .at ≡ C.At first) × (mostText shown ≤ length (now out)) ⌝ }
-    ensures { λ r. ⌜ Leaves (plain whole) (ending shown) (mostText shown) (now (file .entry)) (now (out .entry)) (now (out .exit)) r ⌝ }
+// What stands beneath the line of an accepted step, which was tried with so many constants
+fn put_beneath(out: &mut [u8], at: usize, numbered: bool, constants: u8, witness: Witness) -> usize
+    requires { ⌜ (constants ≤ mostConstants) × (at + mostBeneath numbered ≤ length (now out)) ⌝ }
+    ensures { λ r. ⌜ Put (mostBeneath numbered) (now (out .entry)) at (textBeneath numbered constants witness) (now (out .exit)) r ⌝ }
+{
+    if numbered {
+        if witness.given {
+            let numbers = witness.numbers;
+            return put_numbers(out, at, constants, numbers);
+        }
+    }
+    at
+}
+
+// Tries the steps of a file that is in order, a line for each, and beneath it the numbers handed on if they are to be shown. "It stops at a
+// refused step." Then comes the last line, and the final state if it is to be shown. The table stays here: what a step looks at is copied out
+// of it, and what it learns is written there.
+fn run_steps(
+    file: &[u8],
+    head: HeaderRead,
+    first: usize,
+    out: &mut [u8],
+    numbered: bool,
+    shown: bool,
+) -> Written
+    requires { ⌜ (head ≡ fileAnswer (now file)) × (head .at ≡ C.At first) × (mostText numbered shown ≤ length (now out)) ⌝ }
+    ensures { λ r. ⌜ Leaves (plain whole) (beneath numbered) (ending shown) (mostText numbered shown) (now (file .entry)) (now (out .entry)) (now (out .exit)) r ⌝ }
 {
     let n = head.steps as usize;
     let mut run = new_run(head.constants, head.input);
@@ -99,9 +128,12 @@ fn run_steps(file: &[u8], head: HeaderRead, first: usize, out: &mut [u8], shown:
             let clause = conflict.clause;
             table[learned - 1] = clause;
         }
+        let constants = run.constants;
+        let witness = a.witness;
         let next = a.run;
         run = next;
         at = put_accepted(out, at, j + 1, x, run.length, run.level);
+        at = put_beneath(out, at, numbered, constants, witness);
         let past = read.at;
         cursor = place_of(past);
         j += 1;
@@ -121,14 +153,14 @@ fn run_steps(file: &[u8], head: HeaderRead, first: usize, out: &mut [u8], shown:
 // ---- the file
 
 // What is written of a file into a buffer that has room for every such text. The whole file is judged before the first step is tried.
-fn judged(file: &[u8], out: &mut [u8], shown: bool) -> Written
-    requires { ⌜ mostText shown ≤ length (now out) ⌝ }
-    ensures { λ r. ⌜ Leaves (plain whole) (ending shown) (mostText shown) (now (file .entry)) (now (out .entry)) (now (out .exit)) r ⌝ }
+fn judged(file: &[u8], out: &mut [u8], numbered: bool, shown: bool) -> Written
+    requires { ⌜ mostText numbered shown ≤ length (now out) ⌝ }
+    ensures { λ r. ⌜ Leaves (plain whole) (beneath numbered) (ending shown) (mostText numbered shown) (now (file .entry)) (now (out .entry)) (now (out .exit)) r ⌝ }
 {
     let head = read_file(file);
     let begin = head.at;
     match begin {
-        Cursor::At { place } => run_steps(file, head, place, out, shown),
+        Cursor::At { place } => run_steps(file, head, place, out, numbered, shown),
         Cursor::Refused { number, place } => {
             let count = put_bad(out, 0, number, place);
             Written::Bytes {
@@ -147,7 +179,7 @@ pub fn judge(file: &[u8], out: &mut [u8]) -> Written
     if out.len() < MOST_LISTING {
         return Written::Short;
     }
-    judged(file, out, false)
+    judged(file, out, false, false)
 }
 
 // For reviewers: the listing, and after it the final state
@@ -157,5 +189,15 @@ pub fn inspect(file: &[u8], out: &mut [u8]) -> Written
     if out.len() < MOST_INSPECTION {
         return Written::Short;
     }
-    judged(file, out, true)
+    judged(file, out, false, true)
+}
+
+// The same, with the numbers that accepted steps hand on, a line of them beneath the step's
+pub fn inspect_numbers(file: &[u8], out: &mut [u8]) -> Written
+    ensures { λ r. ⌜ ShowsNumbers (now (file .entry)) (now (out .entry)) (now (out .exit)) r ⌝ }
+{
+    if out.len() < MOST_WITH_NUMBERS {
+        return Written::Short;
+    }
+    judged(file, out, true, true)
 }

@@ -1,6 +1,6 @@
 -- How long a listing can be.
-use mathlib.Core.Path.{subst}
-use mathlib.Core.List.{List, [], _∷_}
+use mathlib.Core.Path.{ap, subst}
+use mathlib.Core.List.{List, [], _∷_, _++_}
 use Prim.Native.Nat.{ℕ, _+_, _*_, _≤_}
 use native.Mathlib.Omega.{arith}
 use lib.ListN.{length, length-append}
@@ -26,12 +26,12 @@ module _ (J : Judge) (M : Modest J) where
   tried-length : {o : J .Over} {n : ℕ} {w : List ℕ} {e : Reply (J .Over)} (xs : List Step) → Reached J o → n + length xs ≤ mostSteps + 1 → Tried J o n xs w e → length w ≤ length xs * mostLine
   tried-length [] R h through = omega arith
   tried-length {o} {n} (x ∷ xs) R h (refused a j z) = omega (arith, length-refused n x (a .number) (omega arith) (omega (arith, M .in-table o x a R j)))
-  tried-length {o} {n} (x ∷ xs) R h (went {w = w} a j z t) =
+  tried-length {o} {n} (x ∷ xs) R h (went {u = u} {w = w} a j z b t) =
       let R′ = steps-keep-reached J o x a R j in
       let s = J .state (a .state) in
       let line = length-accepted n x (length (s .trail)) (s .level) (omega arith) (omega (arith, M .few-entries (a .state) R′)) (omega (arith, M .low-level (a .state) R′)) in
       let rest = tried-length xs R′ (omega arith) t in
-      omega (arith, line, rest, length-append (acceptedLine n x (length (s .trail)) (s .level)) w)
+      omega (arith, line, rest, ap length b, length-append u w, length-append (acceptedLine n x (length (s .trail)) (s .level)) (u ++ w))
 
 pub listing-fits : ListingFits
 listing-fits J M s w h (badFile n p f) =

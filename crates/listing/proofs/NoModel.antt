@@ -23,14 +23,14 @@ use Rattle.runfile.proofs.Given.{every-file}
 use Rattle.text.specs.Text.{bytes, digit, decimal}
 use Rattle.text.proofs.Text.{decimal-small, decimal-more}
 use Rattle.listing.specs.Lines.{isEmpty, isRefutation, closing, badLine}
-use Rattle.listing.specs.Listing.{Tried, through, refused, went, badFile, goodFile}
+use Rattle.listing.specs.Listing.{Beneath, TriedWith, badFile, goodFile, refused, through, went}
 use Rattle.listing.specs.Claims.{RefutedHasNoModel}
 
 -- The steps tried are a run.
-pub tried-run : {J : Judge} {o : J .Over} {n : ℕ} {xs : List Step} {w : List ℕ} {e : Reply (J .Over)} → Tried J o n xs w e → (ys : List Step) × Run J o ys (e .state)
+pub tried-run : {J : Judge} {B : Beneath J} {o : J .Over} {n : ℕ} {xs : List Step} {w : List ℕ} {e : Reply (J .Over)} → TriedWith J B o n xs w e → (ys : List Step) × Run J o ys (e .state)
 tried-run through = ([], Run.over refl)
 tried-run {xs = x ∷ xs} (refused a j z) = (x ∷ [], Run.then a j (Run.over refl))
-tried-run {xs = x ∷ xs} (went a j z t) = let (ys, r) = tried-run t in (x ∷ ys, Run.then a j r)
+tried-run {xs = x ∷ xs} (went a j z b t) = let (ys, r) = tried-run t in (x ∷ ys, Run.then a j r)
 
 -- ---- which last lines end as `refuted` does
 

@@ -18,7 +18,7 @@ use Rattle.state.proofs.Table.{slot-free, table-left, table-written}
 use Rattle.text.proofs.Text.{same-long}
 use Rattle.listing.specs.Lines.{mostLine}
 use Rattle.judging.proofs.Judging.{last-fits, leaves-as, listed, recorded, shown, state-fits}
-use Rattle.judging.proofs.Running.{Ran, SoFar, done, handed, kept, line-fits, ran-as, start, stop, told-of, turn}
+use Rattle.judging.proofs.Running.{Ran, SoFar, beneath-fits, done, handed, kept, line-fits, ran-as, start, stop, told-of, turn}
 use Rattle.judging.proofs.run_steps.Statement.{statement}
 use Rattle.judging.proofs.run_steps.Tie as tie
 use Rattle.judging.proofs.run_steps.Reads as reads
@@ -26,6 +26,7 @@ use Rattle.judging.proofs.run_steps.Lts as lts
 use Rattle.header.proofs.read_clauses.Reads as read-clauses-reads
 use Rattle.inspection.proofs.put_state.Reads as put-state-reads
 use Rattle.judging.proofs.place_of.Reads as place-of-reads
+use Rattle.judging.proofs.put_beneath.Reads as put-beneath-reads
 use Rattle.listing.proofs.put_accepted.Reads as put-accepted-reads
 use Rattle.listing.proofs.put_last.Reads as put-last-reads
 use Rattle.listing.proofs.put_refused.Reads as put-refused-reads
@@ -46,14 +47,14 @@ use Rattle.state.proofs.new_run.Reads as new-run-reads
 use Rattle.steps.proofs.step_at.Reads as step-at-reads
 
 abbrev Inv-steps : tie.InvT-steps
-Inv-steps file first out₀ shown n run₀ table₀ cursor₀ at₀ number₀ place₀ j₀ out run table cursor at number place j =
-    (number ≡ 0) × (place ≡ 0) × SoFar file out₀ n out run table cursor at j
+Inv-steps file first out₀ numbered shown n run₀ table₀ cursor₀ at₀ number₀ place₀ j₀ out run table cursor at number place j =
+    (number ≡ 0) × (place ≡ 0) × SoFar numbered file out₀ n out run table cursor at j
 
 abbrev μ-steps : tie.MeasureT-steps
-μ-steps file first out₀ shown n run₀ table₀ cursor₀ at₀ number₀ place₀ j₀ out run table cursor at number place j = n - j
+μ-steps file first out₀ numbered shown n run₀ table₀ cursor₀ at₀ number₀ place₀ j₀ out run table cursor at number place j = n - j
 
 abbrev claims : lts.Claims
-claims = (new-run-reads.Asked, new-run-reads.Learnt, read-clauses-reads.Asked, read-clauses-reads.Learnt, step-at-reads.Asked, step-at-reads.Learnt, last-slot-reads.Asked, last-slot-reads.Learnt, number-looked-reads.Asked, number-looked-reads.Learnt, slot-of-reads.Asked, slot-of-reads.Learnt, looked-at-reads.Asked, looked-at-reads.Learnt, propagate-reads.Asked, propagate-reads.Learnt, decide-reads.Asked, decide-reads.Learnt, conflict-reads.Asked, conflict-reads.Learnt, resolve-reads.Asked, resolve-reads.Learnt, factorize-reads.Asked, factorize-reads.Learnt, skip-reads.Asked, skip-reads.Learnt, backtrack-reads.Asked, backtrack-reads.Learnt, grow-reads.Asked, grow-reads.Learnt, unknown-reads.Asked, unknown-reads.Learnt, put-refused-reads.Asked, put-refused-reads.Learnt, put-accepted-reads.Asked, put-accepted-reads.Learnt, place-of-reads.Asked, place-of-reads.Learnt, put-last-reads.Asked, put-last-reads.Learnt, put-state-reads.Asked, put-state-reads.Learnt)
+claims = (new-run-reads.Asked, new-run-reads.Learnt, read-clauses-reads.Asked, read-clauses-reads.Learnt, step-at-reads.Asked, step-at-reads.Learnt, last-slot-reads.Asked, last-slot-reads.Learnt, number-looked-reads.Asked, number-looked-reads.Learnt, slot-of-reads.Asked, slot-of-reads.Learnt, looked-at-reads.Asked, looked-at-reads.Learnt, propagate-reads.Asked, propagate-reads.Learnt, decide-reads.Asked, decide-reads.Learnt, conflict-reads.Asked, conflict-reads.Learnt, resolve-reads.Asked, resolve-reads.Learnt, factorize-reads.Asked, factorize-reads.Learnt, skip-reads.Asked, skip-reads.Learnt, backtrack-reads.Asked, backtrack-reads.Learnt, grow-reads.Asked, grow-reads.Learnt, unknown-reads.Asked, unknown-reads.Learnt, put-refused-reads.Asked, put-refused-reads.Learnt, put-accepted-reads.Asked, put-accepted-reads.Learnt, put-beneath-reads.Asked, put-beneath-reads.Learnt, place-of-reads.Asked, place-of-reads.Learnt, put-last-reads.Asked, put-last-reads.Learnt, put-state-reads.Asked, put-state-reads.Learnt)
 
 -- ---- a turn: there is one more step, ..
 abbrev Turn : Type 0
@@ -112,14 +113,14 @@ written c =
 abbrev Left : Type 0
 Left = lts.Left-steps claims reads.Pre reads.Post Inv-steps μ-steps
 
-ran : (c : Left) → Ran (now (c .before .before .before .before .before .before .before .args .file)) (now (c .before .before .before .before .before .before .before .args .out)) (c .steps-test .out) (c .before .steps .run) (c .before .steps .table) (c .steps-test .number) (c .steps-test .place) (c .steps-test .at)
+ran : (c : Left) → Ran (c .before .before .before .before .before .before .before .args .numbered) (now (c .before .before .before .before .before .before .before .args .file)) (now (c .before .before .before .before .before .before .before .args .out)) (c .steps-test .out) (c .before .steps .run) (c .before .steps .table) (c .steps-test .number) (c .steps-test .place) (c .steps-test .at)
 ran c = ⊎-elim
     (λ w. ran-as (done (c .before .steps .inv .2) (w .0 .left)) (w .1) (w .2) (w .3 ∙ c .before .steps .inv .0) (w .4 ∙ c .before .steps .inv .1))
     (λ w. ran-as (stop (c .before .steps .inv .2) (w .0 .taken) (w .1 .ensures) (told (record { before = record { before = record { before = record { before = record { before = record { before = record { before = record { before = record { before = record { before = record { before = c .before; steps-test = w .0 }; step-at = w .1 }; x = w .2 }; last-slot = w .3 }; last = w .4 }; number-looked = w .5 }; slot-of = w .6 }; held = w .7 }; looked-at = w .8 }; instance = w .9 }; match = w .10 })) (w .12 .taken) (w .14 .ensures)) (w .17) (w .18) (w .19) (w .20))
     (c .steps-test .came)
 
 steps-holds : tie.Need-steps-holds Inv-steps μ-steps
-steps-holds c = (refl, refl, start (now (c .before .before .before .before .before .args .file)) (now (c .before .before .before .before .before .args .out)) (c .before .before .before .before .before .args .head) (c .before .before .before .before .before .args .first) (c .before .before .before .before .before .pre .0) (c .before .before .before .before .before .pre .1) (c .before .new-run .ensures) (c .read-clauses .ensures))
+steps-holds c = (refl, refl, start (c .before .before .before .before .before .args .numbered) (now (c .before .before .before .before .before .args .file)) (now (c .before .before .before .before .before .args .out)) (c .before .before .before .before .before .args .head) (c .before .before .before .before .before .args .first) (c .before .before .before .before .before .pre .0) (c .before .before .before .before .before .pre .1) (c .before .new-run .ensures) (c .read-clauses .ensures))
 
 mul-last : tie.Need-mul-last Inv-steps μ-steps
 mul-last c = omega (arith, c .last-slot .ensures, kept-small (kept (c .before .before .before .before .steps .inv .2)) .few-entries)
@@ -164,19 +165,22 @@ array-set-from-table : tie.Need-array-set-from-table Inv-steps μ-steps
 array-set-from-table c = omega (arith, c .before .before .if2 .taken, learned-fits (c .before .before .before .before .before .before))
 
 add-put-accepted : tie.Need-add-put-accepted Inv-steps μ-steps
-add-put-accepted c = omega (arith, line-room (c .before .before .before .before .before .before .before .before .before .before .before .before .before .before .before .before) .0)
+add-put-accepted c = omega (arith, line-room (c .before .before .before .before .before .before .before .before .before .before .before .before .before .before .before .before .before) .0)
 
 put-accepted-requires : tie.Need-put-accepted-requires Inv-steps μ-steps
-put-accepted-requires c κs = line-room (c .before .before .before .before .before .before .before .before .before .before .before .before .before .before .before .before)
+put-accepted-requires c κs = line-room (c .before .before .before .before .before .before .before .before .before .before .before .before .before .before .before .before .before)
+
+put-beneath-requires : tie.Need-put-beneath-requires Inv-steps μ-steps
+put-beneath-requires c κs = beneath-fits (c .before .before .before .before .before .before .before .before .before .before .before .before .before .before .before .before .before .before .before .before .before .before .steps .inv .2) (c .before .before .before .before .before .before .before .before .before .before .before .before .before .before .before .before .before .before .before .before .before .steps-test .taken) (c .before .before .before .before .before .before .before .before .before .before .before .before .before .before .before .before .before .before .before .before .step-at .ensures) (told (c .before .before .before .before .before .before .before .before .before .before .before)) (c .before .before .before .before .before .before .before .before .before .before .before .before .before .before .before .before .before .before .before .before .before .before .before .before .before .before .before .before .args .shown) (c .before .before .before .before .before .before .before .before .before .before .before .before .before .before .before .before .before .before .before .before .before .before .before .before .before .before .before .before .pre .2) refl (c .before .before .before .put-accepted .ensures)
 
 add-j : tie.Need-add-j Inv-steps μ-steps
-add-j c = record { fits = omega (arith, line-room (c .before .before .before .before .before .before .before .before .before .before .before .before .before .before .before .before .before .before .before .before) .0) }
+add-j c = record { fits = omega (arith, line-room (c .before .before .before .before .before .before .before .before .before .before .before .before .before .before .before .before .before .before .before .before .before .before .before .before .before) .0) }
 
 steps-less : tie.Need-steps-less Inv-steps μ-steps
-steps-less c = omega (arith, c .before .before .before .before .before .before .before .before .before .before .before .before .before .before .before .before .before .before .before .before .steps-test .taken)
+steps-less c = omega (arith, c .before .before .before .before .before .before .before .before .before .before .before .before .before .before .before .before .before .before .before .before .before .before .before .before .before .steps-test .taken)
 
 steps-again : tie.Need-steps-again Inv-steps μ-steps
-steps-again c = (c .before .before .before .before .before .before .before .before .before .before .before .before .before .before .before .before .before .before .before .before .before .steps .inv .0, c .before .before .before .before .before .before .before .before .before .before .before .before .before .before .before .before .before .before .before .before .before .steps .inv .1, turn (c .before .before .before .before .before .before .before .before .before .before .before .before .before .before .before .before .before .before .before .before .before .steps .inv .2) (c .before .before .before .before .before .before .before .before .before .before .before .before .before .before .before .before .before .before .before .before .steps-test .taken) (c .before .before .before .before .before .before .before .before .before .before .before .before .before .before .before .before .before .before .before .step-at .ensures) (told (c .before .before .before .before .before .before .before .before .before .before)) (c .before .before .before .before .before .before .before .before .if1 .left) refl (written (c .before .before .before .before .before .before)) (c .before .before .before .put-accepted .ensures) (c .place-of .ensures))
+steps-again c = (c .before .before .before .before .before .before .before .before .before .before .before .before .before .before .before .before .before .before .before .before .before .before .before .before .before .before .steps .inv .0, c .before .before .before .before .before .before .before .before .before .before .before .before .before .before .before .before .before .before .before .before .before .before .before .before .before .before .steps .inv .1, turn (c .before .before .before .before .before .before .before .before .before .before .before .before .before .before .before .before .before .before .before .before .before .before .before .before .before .before .steps .inv .2) (c .before .before .before .before .before .before .before .before .before .before .before .before .before .before .before .before .before .before .before .before .before .before .before .before .before .steps-test .taken) (c .before .before .before .before .before .before .before .before .before .before .before .before .before .before .before .before .before .before .before .before .before .before .before .before .step-at .ensures) (told (c .before .before .before .before .before .before .before .before .before .before .before .before .before .before .before)) (c .before .before .before .before .before .before .before .before .before .before .before .before .before .if1 .left) refl (written (c .before .before .before .before .before .before .before .before .before .before .before)) (c .before .before .before .before .before .before .before .put-accepted .ensures) (c .before .before .before .put-beneath .ensures) (c .place-of .ensures))
 
 put-last-requires : tie.Need-put-last-requires Inv-steps μ-steps
 put-last-requires c κs = last-fits (ran (c .before)) (c .before .before .before .before .before .before .before .before .args .shown) (c .before .before .before .before .before .before .before .before .pre .2)
@@ -228,6 +232,7 @@ run-steps-spec =
     array-set-from-table
     add-put-accepted
     put-accepted-requires
+    put-beneath-requires
     (λ c κs. search needs)
     add-j
     steps-less
