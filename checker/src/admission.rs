@@ -5,6 +5,7 @@
 //! and arities, which are judged first."
 
 use crate::clause::{Atom, Clause, Literal};
+use crate::constraint::Numbers;
 use crate::limits;
 use crate::refusal::{demand, Refusal};
 use crate::state::State;
@@ -143,8 +144,8 @@ impl StepRecord {
 }
 
 impl State {
-    /// Takes a step offered without a file.
-    pub fn offer(&mut self, record: &StepRecord) -> Result<(), Refusal> {
+    /// Takes a step offered without a file, as [`State::take`] does.
+    pub fn offer(&mut self, record: &StepRecord) -> Result<Option<Numbers>, Refusal> {
         self.take(&record.step()?)
     }
 }

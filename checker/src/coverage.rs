@@ -7,7 +7,7 @@ use crate::file::{self, Field};
 use crate::limits;
 use crate::listing::Verdict;
 use crate::refusal::Refusal;
-use crate::rules::{Change, ANSWERS};
+use crate::rules::{Accepted, Change, ANSWERS};
 use crate::state::{Entry, State};
 use crate::step::{Step, RULE_NAMES};
 use std::collections::BTreeMap;
@@ -59,7 +59,7 @@ pub const REACHABLE_IN_FILES: [(u8, &[Field]); 8] = [
 ];
 
 /// What else is to be seen, besides pairs and file refusals.
-pub const SIGHTS: [&str; 109] = [
+pub const SIGHTS: [&str; 133] = [
     "file: no steps",
     "file: 2,000 steps, all accepted",
     "file: 42,994 bytes",
@@ -169,6 +169,70 @@ pub const SIGHTS: [&str; 109] = [
     "backtrack: 16 before 18",
     "refuted: 9 for rules 1, 2, 3, 8",
     "refuted: 10 for rules 4, 5, 7",
+    "propagate: numbers of no constants",
+    "propagate: a number of one constant",
+    "propagate: numbers of several constants",
+    "propagate: numbers of 16 constants",
+    "propagate: a number below 0",
+    "propagate: a number that is 0",
+    "propagate: a number above 0",
+    "conflict: numbers of no constants",
+    "conflict: a number of one constant",
+    "conflict: numbers of several constants",
+    "conflict: numbers of 16 constants",
+    "conflict: a number below 0",
+    "conflict: a number that is 0",
+    "conflict: a number above 0",
+    "backtrack: numbers of no constants",
+    "backtrack: a number of one constant",
+    "backtrack: numbers of several constants",
+    "backtrack: numbers of 16 constants",
+    "backtrack: a number below 0",
+    "backtrack: a number that is 0",
+    "backtrack: a number above 0",
+    "numbers: above 1,000,000",
+    "numbers: below -1,000,000",
+    "numbers: a difference as large as it may be",
+];
+
+/// What is to be seen of the numbers that each rule hands on.
+const OF_NUMBERS: [(u8, [&str; 7]); 3] = [
+    (
+        1,
+        [
+            "propagate: numbers of no constants",
+            "propagate: a number of one constant",
+            "propagate: numbers of several constants",
+            "propagate: numbers of 16 constants",
+            "propagate: a number below 0",
+            "propagate: a number that is 0",
+            "propagate: a number above 0",
+        ],
+    ),
+    (
+        3,
+        [
+            "conflict: numbers of no constants",
+            "conflict: a number of one constant",
+            "conflict: numbers of several constants",
+            "conflict: numbers of 16 constants",
+            "conflict: a number below 0",
+            "conflict: a number that is 0",
+            "conflict: a number above 0",
+        ],
+    ),
+    (
+        7,
+        [
+            "backtrack: numbers of no constants",
+            "backtrack: a number of one constant",
+            "backtrack: numbers of several constants",
+            "backtrack: numbers of 16 constants",
+            "backtrack: a number below 0",
+            "backtrack: a number that is 0",
+            "backtrack: a number above 0",
+        ],
+    ),
 ];
 
 /// The counts.
@@ -219,7 +283,7 @@ impl Coverage {
             *self.pairs.entry((step.rule(), answer)).or_default() += 1;
             self.steps += 1;
             match judged {
-                Ok(change) => {
+                Ok(Accepted { change, numbers }) => {
                     self.accepted(&state, step, &change);
                     resolved = match step {
                         Step::Resolve { .. } => resolved + 1,
@@ -229,6 +293,9 @@ impl Coverage {
                     let fifth = step.rule() == 4 && resolved == 5;
                     self.see("resolve: the fifth time for one conflict", fifth);
                     state.apply(change);
+                    if let Some(numbers) = numbers {
+                        self.handed_on(&state, step.rule(), &numbers);
+                    }
                     self.see("run: trail of 160", state.trail.len() == limits::TRAIL);
                     let learned = state.learned.len();
                     self.see("run: 48 learned clauses", learned == limits::LEARNED_CLAUSES);
@@ -301,6 +368,34 @@ impl Coverage {
             }
             _ => unreachable!("a step changes what its rule says"),
         }
+    }
+
+    /// Numbers that a step hands on, with the state after it.
+    fn handed_on(&mut self, after: &State, rule: u8, numbers: &[i32]) {
+        let of_rule = OF_NUMBERS.iter().find(|(of, _)| *of == rule);
+        let (_, sights) = of_rule.expect("a rule that hands numbers on");
+        let constants = numbers.len();
+        self.see(sights[0], constants == 0);
+        self.see(sights[1], constants == 1);
+        self.see(sights[2], constants > 1);
+        self.see(sights[3], constants == limits::CONSTANTS);
+        self.see(sights[4], numbers.iter().any(|&number| number < 0));
+        self.see(sights[5], numbers.contains(&0));
+        self.see(sights[6], numbers.iter().any(|&number| number > 0));
+        self.see("numbers: above 1,000,000", numbers.iter().any(|&number| number > limits::C));
+        self.see("numbers: below -1,000,000", numbers.iter().any(|&number| number < -limits::C));
+        // All that was asked if it is possible is on the trail now, or in the conflict.
+        let of_conflict = after.conflict.as_ref().map_or(Vec::new(), Closure::ground_atoms);
+        let mut atoms = after.trail.iter().filter_map(Entry::atom).chain(&of_conflict);
+        let number = |place: u8| numbers[place as usize - 1];
+        self.see(
+            "numbers: a difference as large as it may be",
+            atoms.any(|atom| {
+                atom.is_difference()
+                    && atom.p != atom.q
+                    && number(atom.p) - number(atom.q) == atom.c
+            }),
+        );
     }
 
     fn propagated(&mut self, state: &State, clause: u8, entries: &[Entry]) {

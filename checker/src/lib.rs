@@ -4,7 +4,7 @@
 //! The checker: [`clause`], [`constraint`], [`merge`], [`state`], [`step`], [`rules`] are the
 //! calculus, [`file`] and [`admission`] its two ways in, [`listing`] what is printed; [`cases`] are offered
 //! by the second way, or to [`merge`] alone. [`table`] makes input clauses from a lookup table, as change
-//! request 1 has it.
+//! request 1 has it; the numbers behind a yes are as change request 2 has them.
 //!
 //! The tests of others: [`generate`] makes run files and tables, [`coverage`] counts what they come to, [`smt`] puts
 //! questions to a solver.

@@ -1,6 +1,7 @@
 //! Running a file, the listing, and the final state for reviewers.
 
 use crate::clause::{Atom, Clause, Closure, Literal};
+use crate::constraint::Numbers;
 use crate::file::{self, BadFile, RunFile};
 use crate::refusal::Refusal;
 use crate::state::{Entry, State};
@@ -13,6 +14,8 @@ pub struct Tried {
     pub rule_name: &'static str,
     /// The trail's length and k, or the refusal.
     pub answer: Result<(usize, usize), Refusal>,
+    /// The numbers that an accepted step hands on, if it is of a rule that does.
+    pub numbers: Option<Numbers>,
 }
 
 /// A file's run.
@@ -41,8 +44,11 @@ pub fn run(bytes: &[u8]) -> Result<Run, BadFile> {
 pub fn try_steps(mut state: State, steps: &[Step]) -> Run {
     let mut tried = Vec::new();
     for step in steps {
-        let answer = state.take(step).map(|()| (state.trail.len(), state.level));
-        tried.push(Tried { rule_name: step.rule_name(), answer });
+        let (answer, numbers) = match state.take(step) {
+            Ok(numbers) => (Ok((state.trail.len(), state.level)), numbers),
+            Err(refusal) => (Err(refusal), None),
+        };
+        tried.push(Tried { rule_name: step.rule_name(), answer, numbers });
         if answer.is_err() {
             break;
         }
@@ -72,14 +78,27 @@ impl Run {
     /// "One line per step tried: step number, rule name in small letters, trail length, k; or number,
     /// name, `refused`, refusal."
     pub fn listing(&self) -> String {
+        self.lines(false)
+    }
+
+    /// The listing, and after the line of each accepted step that hands numbers on a line `numbers` and these, one
+    /// space before each.
+    pub fn listing_with_numbers(&self) -> String {
+        self.lines(true)
+    }
+
+    fn lines(&self, with_numbers: bool) -> String {
         let mut text = String::new();
-        for (index, Tried { rule_name, answer }) in self.tried.iter().enumerate() {
+        for (index, Tried { rule_name, answer, numbers }) in self.tried.iter().enumerate() {
             let number = index + 1;
             let written = match answer {
                 Ok((length, level)) => writeln!(text, "{number} {rule_name} {length} {level}"),
                 Err(refusal) => writeln!(text, "{number} {rule_name} refused {}", refusal.number),
             };
             written.expect("a string takes all that is written");
+            if let Some(numbers) = numbers.as_ref().filter(|_| with_numbers) {
+                text.push_str(&numbers_line(numbers));
+            }
         }
         text.push_str(match self.verdict() {
             Verdict::Refuted => "refuted\n",
@@ -88,6 +107,12 @@ impl Run {
         });
         text
     }
+}
+
+/// With no constants the line is just `numbers`.
+fn numbers_line(numbers: &[i32]) -> String {
+    let numbers: String = numbers.iter().map(|number| format!(" {number}")).collect();
+    format!("numbers{numbers}\n")
 }
 
 /// "A bad file prints only `bad file`, number, place."
@@ -103,6 +128,12 @@ pub fn listing(bytes: &[u8]) -> String {
 /// The listing of a file and then its final state.
 pub fn inspection(bytes: &[u8]) -> String {
     run(bytes).map_or_else(bad_file, |run| run.listing() + &final_state(&run.state))
+}
+
+/// The same with the numbers behind each yes.
+pub fn inspection_with_numbers(bytes: &[u8]) -> String {
+    let text = |run: Run| run.listing_with_numbers() + &final_state(&run.state);
+    run(bytes).map_or_else(bad_file, text)
 }
 
 /// A state, one line for its constants and level, each trail entry, each clause and the conflict.

@@ -17,6 +17,8 @@ usage: checker generate SEED COUNT DIR    writes COUNT run files to DIR, named b
        checker coverage SEED COUNT        runs COUNT files and prints what they come to
        checker sets SEED COUNT            prints for COUNT sets of atoms the test's answer, sat or unsat
        checker ask-sets SEED COUNT        prints the same sets as questions to a solver
+       checker ask-numbers SEED COUNT     prints, for the first COUNT possible sets, a question for the
+                                          numbers behind the yes, which hold, and one for a larger choice
        checker tables SEED COUNT          prints for a point of each of COUNT lookup tables unsat where the
                                           table returns y at x, else sat
        checker ask-tables SEED COUNT      prints, for each of these points, a question for a model of the
@@ -57,6 +59,7 @@ fn command(words: &[&str]) -> io::Result<ExitCode> {
         ("coverage", []) => return coverage(seeds, &mut out),
         ("sets", []) => answer_sets(seeds, &mut out)?,
         ("ask-sets", []) => ask_sets(seeds, &mut out)?,
+        ("ask-numbers", []) => ask_numbers(seed, count, &mut out)?,
         ("tables", []) => answer_tables(seeds, &mut out)?,
         ("ask-tables", []) => ask_tables(seeds, &mut out)?,
         ("ask-refuted", []) => ask_refuted(seeds, &mut out)?,
@@ -92,8 +95,8 @@ fn coverage(seeds: Seeds, out: &mut impl Write) -> io::Result<ExitCode> {
 fn answer_sets(seeds: Seeds, out: &mut impl Write) -> io::Result<()> {
     for seed in seeds {
         let (constants, atoms) = random_set(seed);
-        let possible = constraint::test(constants, &atoms).expect("a set the test takes");
-        writeln!(out, "{}", if possible { "sat" } else { "unsat" })?;
+        let numbers = constraint::test(constants, &atoms).expect("a set the test takes");
+        writeln!(out, "{}", if numbers.is_some() { "sat" } else { "unsat" })?;
     }
     Ok(())
 }
@@ -102,6 +105,23 @@ fn ask_sets(seeds: Seeds, out: &mut impl Write) -> io::Result<()> {
     for seed in seeds {
         let (constants, atoms) = random_set(seed);
         write!(out, "(reset)\n{}", smt::set_question(constants, &atoms))?;
+    }
+    Ok(())
+}
+
+/// Before a set's two questions the solver prints its seed.
+fn ask_numbers(seed: u64, count: u64, out: &mut impl Write) -> io::Result<()> {
+    let mut left = count;
+    for seed in seed.. {
+        if left == 0 {
+            break;
+        }
+        let (constants, atoms) = random_set(seed);
+        let Some(numbers) = constraint::numbers(constants, &atoms) else { continue };
+        let (hold, exceeded) =
+            (smt::numbers_hold(&atoms, &numbers), smt::numbers_exceeded(&atoms, &numbers));
+        write!(out, "(reset)\n(echo \"seed {seed}\")\n{hold}(reset)\n{exceeded}")?;
+        left -= 1;
     }
     Ok(())
 }

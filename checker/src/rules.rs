@@ -2,7 +2,7 @@
 //! the other and leaves at the first that refuses. A refused step leaves the state as it was.
 
 use crate::clause::{Atom, Clause, Closure, Literal};
-use crate::constraint;
+use crate::constraint::{self, Numbers};
 use crate::limits;
 use crate::merge::{merged, Groups};
 use crate::refusal::{demand, Refusal};
@@ -21,6 +21,15 @@ pub const ANSWERS: [(u8, &[u8]); 8] = [
     (8, &[0, 9, 10, 18]),
 ];
 
+/// The answer to an accepted step.
+#[derive(Clone, Debug, PartialEq, Eq)]
+pub struct Accepted {
+    pub change: Change,
+    /// "Accepted Propagate, Conflict and Backtrack hand these on" (change request 2): the numbers of the
+    /// constraint test, for the constants. The other rules have none.
+    pub numbers: Option<Numbers>,
+}
+
 /// What an accepted step changes in the state.
 #[derive(Clone, Debug, PartialEq, Eq)]
 pub enum Change {
@@ -38,17 +47,27 @@ pub enum Change {
     Grown(usize),
 }
 
-impl State {
-    /// Takes a proposed step: the state becomes the next one, or stays as it is if the step is
-    /// refused.
-    pub fn take(&mut self, step: &Step) -> Result<(), Refusal> {
-        let change = self.judge(step)?;
-        self.apply(change);
-        Ok(())
+impl Accepted {
+    fn with_numbers(numbers: Numbers, change: Change) -> Accepted {
+        Accepted { change, numbers: Some(numbers) }
     }
 
-    /// What a proposed step would change, or the refusal.
-    pub fn judge(&self, step: &Step) -> Result<Change, Refusal> {
+    fn without_numbers(change: Change) -> Accepted {
+        Accepted { change, numbers: None }
+    }
+}
+
+impl State {
+    /// Takes a proposed step: the state becomes the next one, or stays as it is if the step is
+    /// refused. The numbers that an accepted step hands on, if it is of a rule that does.
+    pub fn take(&mut self, step: &Step) -> Result<Option<Numbers>, Refusal> {
+        let Accepted { change, numbers } = self.judge(step)?;
+        self.apply(change);
+        Ok(numbers)
+    }
+
+    /// What a proposed step would change and hand on, or the refusal.
+    pub fn judge(&self, step: &Step) -> Result<Accepted, Refusal> {
         match step {
             Step::Propagate { clause, literal, instance } => {
                 self.propagate(*clause, *literal, instance)
@@ -94,7 +113,7 @@ impl State {
     }
 
     /// "**1 Propagate** (clause, literal L, instance)."
-    fn propagate(&self, clause: u8, literal: u8, instance: &[u8]) -> Result<Change, Refusal> {
+    fn propagate(&self, clause: u8, literal: u8, instance: &[u8]) -> Result<Accepted, Refusal> {
         self.demand_no_conflict()?;
         let held = self.demand_clause(clause, instance)?;
         let own = demand_literal(held, literal)?.at(instance);
@@ -104,11 +123,11 @@ impl State {
         self.demand_false(held, instance, Some(&own))?;
         // "trail atoms and the clause's atoms together are possible"
         let atoms = held.ground_atoms(instance);
-        demand(self.possible_with(self.trail.len(), &atoms), Refusal::at_zero(13))?;
+        let numbers = self.numbers_with(self.trail.len(), &atoms).ok_or(Refusal::at_zero(13))?;
         let origin = Origin { decision: false, clause, literal, instance: instance.to_vec() };
         let entries = self.propagated(self.trail.len(), own, origin, &atoms);
         demand(self.trail.len() + entries.len() <= limits::TRAIL, Refusal::at_zero(18))?;
-        Ok(Change::Propagated(entries))
+        Ok(Accepted::with_numbers(numbers, Change::Propagated(entries)))
     }
 
     /// "**2 Decide** (clause, literal, sign, instance)."
@@ -118,7 +137,7 @@ impl State {
         literal: u8,
         positive: bool,
         instance: &[u8],
-    ) -> Result<Change, Refusal> {
+    ) -> Result<Accepted, Refusal> {
         self.demand_no_conflict()?;
         let held = self.demand_clause(clause, instance)?;
         let own = demand_literal(held, literal)?.at(instance);
@@ -127,28 +146,29 @@ impl State {
         demand(self.is_undefined(&decided), Refusal::at_zero(11))?;
         demand(self.trail.len() < limits::TRAIL, Refusal::at_zero(18))?;
         let origin = Origin { decision: true, clause, literal, instance: instance.to_vec() };
-        Ok(Change::Decided(Entry::Foreground(decided, origin)))
+        Ok(Accepted::without_numbers(Change::Decided(Entry::Foreground(decided, origin))))
     }
 
     /// "**3 Conflict** (clause, instance)."
-    fn conflict(&self, clause: u8, instance: &[u8]) -> Result<Change, Refusal> {
+    fn conflict(&self, clause: u8, instance: &[u8]) -> Result<Accepted, Refusal> {
         self.demand_no_conflict()?;
         let held = self.demand_clause(clause, instance)?;
         // "All literals false"
         self.demand_false(held, instance, None)?;
         // "trail and clause atoms together possible"
         let atoms = held.ground_atoms(instance);
-        demand(self.possible_with(self.trail.len(), &atoms), Refusal::at_zero(13))?;
+        let numbers = self.numbers_with(self.trail.len(), &atoms).ok_or(Refusal::at_zero(13))?;
         // "The clause becomes the conflict.", "the Conflict rule itself merges nothing"
-        Ok(Change::Conflict(Closure { clause: held.clone(), instance: instance.to_vec() }))
+        let conflict = Closure { clause: held.clone(), instance: instance.to_vec() };
+        Ok(Accepted::with_numbers(numbers, Change::Conflict(conflict)))
     }
 
     /// "**4 Resolve** (literal L')."
-    fn resolve(&self, literal: u8) -> Result<Change, Refusal> {
+    fn resolve(&self, literal: u8) -> Result<Accepted, Refusal> {
         let resolvent = self.resolvent(literal)?;
         // "clause limits counted after merging"
         demand(resolvent.clause.within_limits(), Refusal::at_zero(18))?;
-        Ok(Change::Conflict(resolvent))
+        Ok(Accepted::without_numbers(Change::Conflict(resolvent)))
     }
 
     /// The conflict that Resolve would give, its limits not yet counted.
@@ -167,18 +187,18 @@ impl State {
     }
 
     /// "**5 Factorize** (two different literals with the same instance)."
-    fn factorize(&self, first: u8, second: u8) -> Result<Change, Refusal> {
+    fn factorize(&self, first: u8, second: u8) -> Result<Accepted, Refusal> {
         let conflict = self.demand_conflict()?;
         let one = demand_literal(&conflict.clause, first)?;
         let other = demand_literal(&conflict.clause, second)?;
         demand(first != second, Refusal::at_zero(10))?;
         let same = one.at(&conflict.instance) == other.at(&conflict.instance);
         demand(same, Refusal::at_zero(15))?;
-        Ok(Change::Conflict(factor(conflict, first, second)))
+        Ok(Accepted::without_numbers(Change::Conflict(factor(conflict, first, second))))
     }
 
     /// "**6 Skip**."
-    fn skip(&self) -> Result<Change, Refusal> {
+    fn skip(&self) -> Result<Accepted, Refusal> {
         let conflict = self.demand_conflict()?;
         let last = self.trail.last().ok_or(Refusal::at_zero(14))?;
         // "The last entry goes, if it is an atom or if its complement is not in the conflict."
@@ -186,11 +206,11 @@ impl State {
             let in_conflict = conflict.ground_literals().contains(&literal.complement());
             demand(!in_conflict, Refusal::at_zero(15))?;
         }
-        Ok(Change::Skipped)
+        Ok(Accepted::without_numbers(Change::Skipped))
     }
 
     /// "**7 Backtrack** (literal L, the others D)."
-    fn backtrack(&self, literal: u8) -> Result<Change, Refusal> {
+    fn backtrack(&self, literal: u8) -> Result<Accepted, Refusal> {
         let conflict = self.demand_conflict()?;
         let own = demand_literal(&conflict.clause, literal)?.at(&conflict.instance);
         let others = without(&conflict.ground_literals(), literal);
@@ -204,7 +224,7 @@ impl State {
         let kept = self.length_before_decision(level + 1);
         // "Kept atoms and conflict atoms together are possible."
         let atoms = conflict.ground_atoms();
-        demand(self.possible_with(kept, &atoms), Refusal::at_zero(17))?;
+        let numbers = self.numbers_with(kept, &atoms).ok_or(Refusal::at_zero(17))?;
         // "The conflict is learned; L and its new atoms are appended as Propagate would append them
         // from the learned clause; k is i, no conflict."
         let clause = (self.clauses() + 1) as u8;
@@ -214,16 +234,16 @@ impl State {
         let room =
             kept + entries.len() <= limits::TRAIL && self.learned.len() < limits::LEARNED_CLAUSES;
         demand(room, Refusal::at_zero(18))?;
-        Ok(Change::Learned { kept, entries, level })
+        Ok(Accepted::with_numbers(numbers, Change::Learned { kept, entries, level }))
     }
 
     /// "**8 Grow** (count)."
-    fn grow(&self, count: u8) -> Result<Change, Refusal> {
+    fn grow(&self, count: u8) -> Result<Accepted, Refusal> {
         self.demand_no_conflict()?;
         demand(count > 0, Refusal::at_zero(10))?;
         let room = self.constants + count as usize <= limits::CONSTANTS;
         demand(room, Refusal::at_zero(18))?;
-        Ok(Change::Grown(count.into()))
+        Ok(Accepted::without_numbers(Change::Grown(count.into())))
     }
 
     /// 9: "conflict standing for 1, 2, 3, 8"
@@ -261,8 +281,8 @@ impl State {
         Ok(())
     }
 
-    /// Whether the atoms among the first `kept` trail entries are possible together with `atoms`.
-    fn possible_with(&self, kept: usize, atoms: &[Atom]) -> bool {
+    /// The constraint test of the atoms among the first `kept` trail entries together with `atoms`.
+    fn numbers_with(&self, kept: usize, atoms: &[Atom]) -> Option<Numbers> {
         let trail_atoms = self.trail[..kept].iter().filter_map(Entry::atom);
         let all: Vec<Atom> = trail_atoms.chain(atoms).copied().collect();
         constraint::test(self.constants, &all).expect("a state's atoms meet the test's demands")

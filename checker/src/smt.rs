@@ -5,6 +5,48 @@ use std::fmt::Write;
 
 /// Asks if whole numbers exist for the constants that keep their order and make every atom true.
 pub fn set_question(constants: usize, atoms: &[Atom]) -> String {
+    let mut text = constants_in_order(constants);
+    for atom in atoms {
+        line(&mut text, format_args!("(assert {})", atom_term(atom, "b")));
+    }
+    text + "(check-sat)\n"
+}
+
+/// Asks of numbers for the constants if they keep the order and make every atom true.
+pub fn numbers_hold(atoms: &[Atom], numbers: &[i32]) -> String {
+    let mut text = constants_in_order(numbers.len());
+    for atom in atoms {
+        line(&mut text, format_args!("(assert {})", atom_term(atom, "b")));
+    }
+    for (index, &number) in numbers.iter().enumerate() {
+        line(&mut text, format_args!("(assert (= b{} {}))", index + 1, numeral(number)));
+    }
+    text + "(check-sat)\n"
+}
+
+/// Asks if there is a choice for zero and the constants "in which nothing exceeds 0, the order holds and every atom
+/// holds as a difference", and which is larger at some place than the one that these numbers are of. That one has a 0
+/// somewhere, since else each of its numbers could be larger by 1; so it is zero's 0 and these numbers, less the largest
+/// of them all.
+pub fn numbers_exceeded(atoms: &[Atom], numbers: &[i32]) -> String {
+    let mut text = constants_in_order(numbers.len());
+    line(&mut text, format_args!("(declare-const zero Int)"));
+    let most = numbers.iter().fold(0, |most, &number| most.max(number));
+    let mut larger = Vec::new();
+    for (index, number) in [&[0], numbers].concat().into_iter().enumerate() {
+        let name = place(index as u8, "b", "zero");
+        line(&mut text, format_args!("(assert (<= {name} 0))"));
+        larger.push(format!("(> {name} {})", numeral(number - most)));
+    }
+    for atom in atoms {
+        line(&mut text, format_args!("(assert {})", difference(atom, "b", "zero")));
+    }
+    line(&mut text, format_args!("(assert (or {}))", larger.join(" ")));
+    text + "(check-sat)\n"
+}
+
+/// Declares the constants b1, b2, .. and says that they are in order.
+fn constants_in_order(constants: usize) -> String {
     let mut text = "(set-logic QF_LIA)\n".to_string();
     for constant in 1..=constants {
         line(&mut text, format_args!("(declare-const b{constant} Int)"));
@@ -12,10 +54,7 @@ pub fn set_question(constants: usize, atoms: &[Atom]) -> String {
     for second in 2..=constants {
         line(&mut text, format_args!("(assert (< b{} b{second}))", second - 1));
     }
-    for atom in atoms {
-        line(&mut text, format_args!("(assert {})", atom_term(atom, "b")));
-    }
-    text + "(check-sat)\n"
+    text
 }
 
 /// Declares the predicates and says that every clause holds for all whole numbers.
@@ -68,9 +107,10 @@ fn body(clause: &Clause, name: &str) -> String {
     format!("(=> (and true {}) (or false {}))", atoms.join(" "), literals.join(" "))
 }
 
-fn place(number: u8, name: &str) -> String {
+/// A variable or constant, or what zero is called
+fn place(number: u8, name: &str, zero: &str) -> String {
     match number {
-        0 => "0".to_string(),
+        0 => zero.to_string(),
         _ => format!("{name}{number}"),
     }
 }
@@ -84,7 +124,11 @@ fn numeral(number: i32) -> String {
 
 /// "An atom (p, q, c) means p − q ≤ c."
 fn atom_term(atom: &Atom, name: &str) -> String {
-    let (p, q) = (place(atom.p, name), place(atom.q, name));
+    difference(atom, name, "0")
+}
+
+fn difference(atom: &Atom, name: &str, zero: &str) -> String {
+    let (p, q) = (place(atom.p, name, zero), place(atom.q, name, zero));
     format!("(<= (- {p} {q}) {})", numeral(atom.c))
 }
 
@@ -93,7 +137,7 @@ fn literal_term(literal: &Literal, name: &str) -> String {
         .arguments
         .iter()
         .filter(|&&variable| variable > 0)
-        .map(|&variable| place(variable, name))
+        .map(|&variable| format!("{name}{variable}"))
         .collect();
     let positive = match arguments.len() {
         0 => format!("P{}", literal.predicate),

@@ -110,7 +110,8 @@ fn each_field_of_a_record() {
 fn steps_without_a_file() {
     let mut state = admit(1, 2, &ARITIES, &[good()]).unwrap();
     let mut offer = |record: StepRecord| {
-        state.offer(&record).map_err(|refusal| (refusal.number, refusal.place))
+        let answer = state.offer(&record);
+        answer.map(|_| ()).map_err(|refusal| (refusal.number, refusal.place))
     };
     let none = StepRecord::default();
     for rule in [0, 9, 255] {

@@ -4,7 +4,7 @@ mod common;
 
 use checker::clause::Closure;
 use checker::constraint::test;
-use checker::listing::{inspection, listing};
+use checker::listing::{inspection, inspection_with_numbers, listing};
 use checker::state::{Entry, Origin, State};
 use common::*;
 
@@ -14,34 +14,34 @@ const C: u8 = 3;
 
 #[test]
 fn e1_no_constants_no_atoms() {
-    assert_eq!(test(0, &[]), Ok(true));
+    assert_eq!(test(0, &[]), yes(&[]));
 }
 
 #[test]
 fn e2_three_constants_between_1_and_2() {
-    assert_eq!(test(3, &[at_least(A, 1), at_most(C, 2)]), Ok(false));
+    assert_eq!(test(3, &[at_least(A, 1), at_most(C, 2)]), Ok(None));
 }
 
 #[test]
 fn e3_two_constants_between_1_and_2() {
-    assert_eq!(test(2, &[at_least(A, 1), at_most(B, 2)]), Ok(true));
+    assert_eq!(test(2, &[at_least(A, 1), at_most(B, 2)]), yes(&[1, 2]));
 }
 
 #[test]
 fn e4_the_order_is_strict() {
-    assert_eq!(test(2, &[at_least(A, 5), at_most(B, 5)]), Ok(false));
+    assert_eq!(test(2, &[at_least(A, 5), at_most(B, 5)]), Ok(None));
 }
 
 #[test]
 fn e5_a_place_and_itself() {
-    assert_eq!(test(1, &[atom(A, A, -1)]), Ok(false));
-    assert_eq!(test(1, &[atom(A, A, 0)]), Ok(true));
+    assert_eq!(test(1, &[atom(A, A, -1)]), Ok(None));
+    assert_eq!(test(1, &[atom(A, A, 0)]), yes(&[0]));
 }
 
 #[test]
 fn e6_a_difference_between_bounds() {
-    assert_eq!(test(2, &[atom(A, B, -4), at_least(A, 0), at_most(B, 3)]), Ok(false));
-    assert_eq!(test(2, &[atom(A, B, -4), at_least(A, 0), at_most(B, 4)]), Ok(true));
+    assert_eq!(test(2, &[atom(A, B, -4), at_least(A, 0), at_most(B, 3)]), Ok(None));
+    assert_eq!(test(2, &[atom(A, B, -4), at_least(A, 0), at_most(B, 4)]), yes(&[0, 4]));
 }
 
 #[test]
@@ -54,6 +54,8 @@ fn e7_the_run() {
                 clause 2 1 [0-1<=-3] ~P1(1)\n\
                 conflict 1 [0-1<=-3 1-0<=10] at (1)\n";
     assert_eq!(inspection(&EXAMPLE), lines.to_string() + last);
+    let lines = "1 propagate 2 0\nnumbers 0\n2 conflict 2 0\nnumbers 3\n3 skip 1 0\n4 resolve 1 0\nrefuted\n";
+    assert_eq!(inspection_with_numbers(&EXAMPLE), lines.to_string() + last);
 }
 
 #[test]

@@ -8,7 +8,7 @@ use checker::coverage::Coverage;
 use checker::file::{read, write};
 use checker::generate::generate;
 use checker::limits;
-use checker::listing::{inspection, listing};
+use checker::listing::{inspection, inspection_with_numbers, listing};
 use checker::state::{Entry, Origin, State};
 use checker::step::Step;
 
@@ -57,7 +57,8 @@ fn no_atom_of_either_kind_twice_on_the_trail() {
 #[test]
 fn trail_atoms_possible() {
     each_state(|_, _, state| {
-        assert_eq!(constraint::test(state.constants, &trail_atoms(state)), Ok(true));
+        let numbers = constraint::test(state.constants, &trail_atoms(state));
+        assert!(numbers.expect("a set the test takes").is_some());
     });
 }
 
@@ -148,7 +149,7 @@ fn the_steps_behind_the_trail_lead_to_it_again() {
         let mut again = State { trail: vec![], level: 0, conflict: None, ..state.clone() };
         for entry in &state.trail {
             if let Entry::Foreground(literal, origin) = entry {
-                assert_eq!(again.take(&step_of(literal, origin)), Ok(()));
+                assert_eq!(again.take(&step_of(literal, origin)).err(), None);
             }
         }
         if state.conflict.is_some() {
@@ -198,6 +199,24 @@ fn the_instances_of_the_next_conflict() {
         if let Step::Resolve { .. } | Step::Factorize { .. } = step {
             assert!(!has_twice(&new.clause.atoms));
         }
+    });
+}
+
+/// Propagate, Conflict and Backtrack hand numbers on, the other rules none. They keep the order and make all atoms true
+/// that stand on the trail or in the conflict then, and are the test's for these.
+#[test]
+fn the_numbers_of_accepted_steps() {
+    each_state(|before, step, after| {
+        let numbers = before.judge(step).expect("accepted").numbers;
+        assert_eq!(numbers.is_some(), [1, 3, 7].contains(&step.rule()));
+        let Some(numbers) = numbers else { return };
+        let mut atoms = trail_atoms(after);
+        atoms.extend(after.conflict.iter().flat_map(Closure::ground_atoms));
+        assert_eq!(numbers.len(), after.constants);
+        assert!(numbers.windows(2).all(|two| two[0] < two[1]));
+        let number = |place: u8| if place == 0 { 0 } else { numbers[place as usize - 1] };
+        assert!(atoms.iter().all(|atom| number(atom.p) - number(atom.q) <= atom.c));
+        assert_eq!(Some(&numbers), constraint::numbers(after.constants, &atoms).as_ref());
     });
 }
 
@@ -261,6 +280,21 @@ fn an_inspection_begins_with_the_listing() {
         assert_eq!(bad, inspection == listing);
         assert!(bad || inspection[listing.len()..].starts_with("constants "));
     }
+}
+
+/// Numbers come in lines of their own; all other lines stay.
+#[test]
+fn an_inspection_with_numbers_has_further_lines_alone() {
+    let mut further = 0;
+    for seed in SEEDS {
+        let bytes = generate(seed);
+        let text = inspection_with_numbers(&bytes);
+        let is_further = |line: &&str| line.starts_with("numbers");
+        further += text.lines().filter(is_further).count();
+        let others: Vec<&str> = text.lines().filter(|line| !is_further(line)).collect();
+        assert_eq!(others, inspection(&bytes).lines().collect::<Vec<_>>());
+    }
+    assert!(further > 1_000, "{further}");
 }
 
 #[test]

@@ -250,7 +250,7 @@ fn wide(own: usize, other: usize, atoms: fn(u8) -> Vec<Atom>) -> (State, Result<
         accept(&mut state, &[SKIP]);
     }
     let before = state.clone();
-    let answer = state.take(&resolve(1)).map_err(|refusal| refusal.number);
+    let answer = state.take(&resolve(1)).map(|_| ()).map_err(|refusal| refusal.number);
     assert!(answer.is_ok() || state == before);
     (state, answer)
 }
@@ -295,7 +295,7 @@ fn resolve_counts_variables_after_merging() {
         ];
         accept(&mut state, &steps);
         let answer = state.take(&resolve(1)).map_err(|refusal| refusal.number);
-        answer.map(|()| state.conflict.map(|conflict| conflict.clause.variables))
+        answer.map(|_| state.conflict.map(|conflict| conflict.clause.variables))
     };
     assert_eq!(run(0), Ok(Some(11)));
     assert_eq!(run(1), Ok(Some(12)));
@@ -464,7 +464,7 @@ fn backtrack_needs_room_on_the_trail() {
             instances[157..157 + more].iter().map(|i| propagate(1, 1, i)).collect();
         accept(&mut state, &more);
         accept(&mut state, &[decide(1, 1, true, &[16, 16]), conflict(2, &[16, 16])]);
-        let found = state.take(&backtrack(1)).map_err(|refusal| refusal.number);
+        let found = state.take(&backtrack(1)).map(|_| ()).map_err(|refusal| refusal.number);
         assert_eq!(found, answer);
         assert_eq!(state.trail.len(), if answer.is_ok() { 160 } else { 158 + more.len() });
     }

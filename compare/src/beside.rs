@@ -4,7 +4,8 @@ use checker::file::BadFile;
 use checker::listing::{self, bad_file, final_state, run, Run};
 use checker::rules::ANSWERS;
 use checker::step::RULE_NAMES;
-use drf::{inspect, judge, Short, Told, Verdict, MOST_INSPECTION};
+use drf::{inspect, inspect_numbers, judge, Short, Told, Verdict};
+use drf::{MOST_INSPECTION, MOST_LISTING, MOST_WITH_NUMBERS};
 use std::panic::{catch_unwind, AssertUnwindSafe};
 
 /// What the checker makes of a file
@@ -25,11 +26,12 @@ impl Default for Buffer {
 
 impl Buffer {
     pub fn of(byte: u8) -> Buffer {
-        Buffer { bytes: vec![byte; MOST_INSPECTION], byte }
+        Buffer { bytes: vec![byte; MOST_WITH_NUMBERS], byte }
     }
 
     /// What the checker makes of a file; or, where the two don't tell the same, the first thing told differently: the listing, the state at
-    /// the end, the verdict, number and place of the last answer, or the bytes past the text, which are to stay. A checker that panics is a difference too.
+    /// the end, the numbers behind each yes, the verdict, number and place of the last answer, or the bytes past the text, which are to stay.
+    /// A checker that panics is a difference too.
     pub fn compare(&mut self, file: &[u8]) -> Result<Made, String> {
         let compared = catch_unwind(AssertUnwindSafe(|| self.compare_made(file)));
         compared.unwrap_or_else(|_| Err("a panic".to_string()))
@@ -37,25 +39,30 @@ impl Buffer {
 
     fn compare_made(&mut self, file: &[u8]) -> Result<Made, String> {
         let made = run(file);
-        let (listing, state) = match &made {
-            Err(bad) => (bad_file(*bad), String::new()),
-            Ok(run) => (run.listing(), final_state(&run.state)),
+        let (listing, with_numbers, state) = match &made {
+            Err(bad) => (bad_file(*bad), bad_file(*bad), String::new()),
+            Ok(run) => (run.listing(), run.listing_with_numbers(), final_state(&run.state)),
         };
         let ends = (last_verdict(&made), last_answer(&made));
-        self.lend("listing", &listing, ends, |out| judge(file, out))?;
-        self.lend("listing and state", &(listing + &state), ends, |out| inspect(file, out))?;
+        let least = [MOST_LISTING, MOST_INSPECTION, MOST_WITH_NUMBERS];
+        self.lend("listing", least[0], &listing, ends, |out| judge(file, out))?;
+        let inspected = listing + &state;
+        self.lend("listing and state", least[1], &inspected, ends, |out| inspect(file, out))?;
+        let numbered = with_numbers + &state;
+        self.lend("with numbers", least[2], &numbered, ends, |out| inspect_numbers(file, out))?;
         Ok(made)
     }
 
-    /// A call that writes a text to the front of the buffer, and tells of it how it ends: the verdict, number and place
+    /// A call that writes a text to the front of the least buffer it takes, and tells of it how it ends: the verdict, number and place
     fn lend(
         &mut self,
         name: &str,
+        least: usize,
         expected: &str,
         ends: (Verdict, (u8, u64)),
         call: impl FnOnce(&mut [u8]) -> Result<Told, Short>,
     ) -> Result<(), String> {
-        let (count, told_ends) = match call(&mut self.bytes) {
+        let (count, told_ends) = match call(&mut self.bytes[..least]) {
             Ok(told) => (told.text.len(), Some((told.verdict, (told.number, told.place)))),
             Err(Short) => (0, None),
         };
@@ -116,13 +123,15 @@ fn last_answer(made: &Made) -> (u8, u64) {
     refusal.map_or((0, 0), |refusal| (refusal.number, refusal.place as u64))
 }
 
-/// What files came to: how many, their steps, and which answers each rule was given.
+/// What files came to: how many, their steps, which answers each rule was given, and how many of each rule's steps handed numbers on.
 #[derive(Default)]
 pub struct Seen {
     pub files: usize,
     pub steps: usize,
     /// Of each rule the numbers it was answered by, 0 for accepted, as bits.
     answers: [u32; RULE_NAMES.len()],
+    /// Of each rule the lines of numbers.
+    numbers: [usize; RULE_NAMES.len()],
 }
 
 impl Seen {
@@ -132,9 +141,26 @@ impl Seen {
         self.steps += run.tried.len();
         for tried in &run.tried {
             let rule = RULE_NAMES.iter().position(|name| *name == tried.rule_name);
+            let rule = rule.expect("a rule's name");
             let number = tried.answer.map_or_else(|refusal| refusal.number, |_| 0);
-            self.answers[rule.expect("a rule's name")] |= 1 << number;
+            self.answers[rule] |= 1 << number;
+            self.numbers[rule] += tried.numbers.is_some() as usize;
         }
+    }
+
+    /// What others came to besides
+    pub fn add(&mut self, others: &Seen) {
+        self.files += others.files;
+        self.steps += others.steps;
+        for rule in 0..RULE_NAMES.len() {
+            self.answers[rule] |= others.answers[rule];
+            self.numbers[rule] += others.numbers[rule];
+        }
+    }
+
+    /// Of each rule that has lines of numbers how many
+    pub fn numbers(&self) -> Vec<(&'static str, usize)> {
+        RULE_NAMES.into_iter().zip(self.numbers).filter(|(_, lines)| *lines > 0).collect()
     }
 
     fn has(&self, rule: u8, answer: u8) -> bool {

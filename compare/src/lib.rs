@@ -4,4 +4,5 @@ pub mod beside;
 pub mod mutate;
 pub mod steps;
 pub mod tables;
+pub mod timing;
 pub mod watch;

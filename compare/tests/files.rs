@@ -1,22 +1,26 @@
-//! Listings, whole final states and the places of refusals, on generated files: the proved tool and the independent checker say the same.
+//! Listings, whole final states, the numbers behind each yes and the places of refusals, on generated files: the proved tool and the
+//! independent checker say the same.
 
 use checker::coverage::Coverage;
 use checker::generate::generate;
-use compare::beside::Buffer;
-use drf::{inspect, judge, MOST_INSPECTION, MOST_LISTING};
+use compare::beside::{Buffer, Seen};
+use drf::{inspect, inspect_numbers, judge, MOST_INSPECTION, MOST_LISTING, MOST_WITH_NUMBERS};
 use std::ops::Range;
 use std::thread;
 
 const FILES: u64 = 20_000;
 const WORKERS: u64 = 2;
 
-fn differences(seeds: Range<u64>) -> Vec<String> {
-    let mut buffer = Buffer::default();
-    seeds
-        .filter_map(|seed| {
-            buffer.compare(&generate(seed)).err().map(|text| format!("seed {seed}: {text}"))
-        })
-        .collect()
+fn differences(seeds: Range<u64>) -> (Vec<String>, Seen) {
+    let (mut buffer, mut seen) = (Buffer::default(), Seen::default());
+    let mut found = Vec::new();
+    for seed in seeds {
+        match buffer.compare(&generate(seed)) {
+            Ok(made) => seen.note(&made),
+            Err(text) => found.push(format!("seed {seed}: {text}")),
+        }
+    }
+    (found, seen)
 }
 
 #[test]
@@ -25,9 +29,16 @@ fn same_on_generated_files() {
     let workers: Vec<_> = (0..WORKERS)
         .map(|k| thread::spawn(move || differences(1 + k * part..1 + (k + 1) * part)))
         .collect();
-    let found: Vec<String> =
-        workers.into_iter().flat_map(|worker| worker.join().expect("a worker ends")).collect();
+    let (mut found, mut seen) = (Vec::new(), Seen::default());
+    for worker in workers {
+        let (differences, of_worker) = worker.join().expect("a worker ends");
+        found.extend(differences);
+        seen.add(&of_worker);
+    }
     assert!(found.is_empty(), "{} differences, the first:\n{}", found.len(), found[0]);
+    println!("lines of numbers: {:?}", seen.numbers());
+    let rules: Vec<&str> = seen.numbers().into_iter().map(|(rule, _)| rule).collect();
+    assert_eq!(rules, ["propagate", "conflict", "backtrack"], "rules with lines of numbers");
 }
 
 #[test]
@@ -51,12 +62,14 @@ fn lent_bytes() {
         }
         for room in [0, 1, 26, 1_000, MOST_LISTING - 1] {
             let mut out = vec![0xA5; room];
-            assert!(
-                judge(&file, &mut out).is_err() && inspect(&file, &mut out).is_err(),
-                "seed {seed}"
-            );
+            for told in [judge, inspect, inspect_numbers] {
+                assert!(told(&file, &mut out).is_err(), "seed {seed}");
+            }
             assert!(out.iter().all(|&b| b == 0xA5), "seed {seed}");
         }
         assert!(inspect(&file, &mut vec![0; MOST_INSPECTION - 1]).is_err(), "seed {seed}");
+        let mut out = vec![0xA5; MOST_WITH_NUMBERS - 1];
+        assert!(inspect_numbers(&file, &mut out).is_err(), "seed {seed}");
+        assert!(out.iter().all(|&b| b == 0xA5), "seed {seed}");
     }
 }

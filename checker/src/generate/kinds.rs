@@ -12,14 +12,14 @@ use crate::step::Step;
 
 /// A file as it should be.
 pub fn run_file(random: &mut Random) -> RunFile {
-    let kinds: [(usize, Kind); 17] = [
-        (140, few_constants),
-        (160, many_clauses),
+    let kinds: [(usize, Kind); 18] = [
+        (120, few_constants),
+        (140, many_clauses),
         (60, no_variables),
         (120, implications),
         (100, close_bounds),
         (120, bands),
-        (140, wide_clauses),
+        (110, wide_clauses),
         (60, two_wide_clauses),
         (50, full_trail),
         (50, full_trail_and_conflict),
@@ -28,6 +28,7 @@ pub fn run_file(random: &mut Random) -> RunFile {
         (20, same_clause_again),
         (60, odd_corners),
         (40, far_bounds),
+        (70, far_apart),
         (8, long_run),
         (2, longest),
     ];
@@ -288,8 +289,8 @@ fn bands(random: &mut Random) -> RunFile {
     file_of(first, steps)
 }
 
-/// A fact, denial or implication whose variables lie in bands, some at a distance from each other.
-fn clause_on_bands(random: &mut Random, arities: &[u8]) -> Clause {
+/// A fact, denial or implication without atoms.
+fn clause_of_literals(random: &mut Random, arities: &[u8]) -> Clause {
     let mut clause = Clause { variables: 0, atoms: Vec::new(), literals: Vec::new() };
     for _ in 0..random.pick(&[1, 1, 2, 2, 3]) {
         let index = random.below(arities.len());
@@ -302,6 +303,12 @@ fn clause_on_bands(random: &mut Random, arities: &[u8]) -> Clause {
         }
         clause.literals.push(of(random.percent(50), index as u8 + 1, &arguments));
     }
+    clause
+}
+
+/// A clause whose variables lie in bands, some at a distance from each other.
+fn clause_on_bands(random: &mut Random, arities: &[u8]) -> Clause {
+    let mut clause = clause_of_literals(random, arities);
     for variable in 1..=clause.variables {
         let least = random.whole(0..=30);
         let most = least + random.whole(0..=14);
@@ -313,6 +320,63 @@ fn clause_on_bands(random: &mut Random, arities: &[u8]) -> Clause {
             let c = random.whole(-12..=12);
             let (p, q) = random.pick(&[(variable, variable - 1), (variable - 1, variable)]);
             clause.atoms.push(Atom { p, q, c });
+        }
+    }
+    random.shuffle(&mut clause.atoms);
+    clause
+}
+
+/// Clauses that hold from a number on or up to one, and of numbers far from each other: of the numbers behind a yes
+/// each hangs on bounds and differences of others.
+fn far_apart(random: &mut Random) -> RunFile {
+    let reach = random.pick(&[12, 300, 20_000, limits::C]);
+    let arities: Vec<u8> = (0..random.within(2..=5)).map(|_| random.within(1..=3) as u8).collect();
+    let clauses = random.within(8..=30);
+    let input = (0..clauses).map(|_| clause_far_apart(random, &arities, reach)).collect();
+    let constants = random.pick(&[1..=2, 2..=5, 2..=16, 6..=16, 16..=16]);
+    let first = State::first(random.within(constants), arities, input);
+    let mut temper = temper(random, 120);
+    (temper.propagate, temper.decide, temper.conflict) =
+        random.pick(&[(100, 5, 10), (20, 1, 20), (10, 10, 10)]);
+    temper.moment = Moment::Step(random.within(20..=100));
+    let steps = play(random, &temper, first.clone());
+    file_of(first, steps)
+}
+
+/// A fact, implication or goal with a bound of some variables on one side, and differences, which have bounds at the
+/// ends of c's range beside them where they have no others.
+fn clause_far_apart(random: &mut Random, arities: &[u8], reach: i32) -> Clause {
+    let mut clause = clause_of_literals(random, arities);
+    let head = random.below(clause.literals.len());
+    let goal = clause.literals.len() > 1 && random.percent(15);
+    for (index, literal) in clause.literals.iter_mut().enumerate() {
+        literal.positive = index == head && !goal;
+    }
+    for variable in 1..=clause.variables {
+        let end = if random.percent(10) {
+            random.pick(&[-limits::C, limits::C])
+        } else {
+            random.whole(-reach..=reach)
+        };
+        // A variable that is in no literal needs a bound.
+        match random.below(if clause.occurs(variable) { 4 } else { 2 }) {
+            0 => clause.atoms.push(Atom { p: variable, q: 0, c: end }),
+            1 => clause.atoms.push(Atom { p: 0, q: variable, c: end }),
+            _ => {}
+        }
+    }
+    for variable in 2..=clause.variables {
+        if random.percent(50) {
+            let (p, q) = random.pick(&[(variable, variable - 1), (variable - 1, variable)]);
+            for variable in [p, q] {
+                if !clause.atoms.iter().any(|atom| atom.bounds_above(variable)) {
+                    clause.atoms.push(Atom { p: variable, q: 0, c: limits::C });
+                }
+                if !clause.atoms.iter().any(|atom| atom.bounds_below(variable)) {
+                    clause.atoms.push(Atom { p: 0, q: variable, c: limits::C });
+                }
+            }
+            clause.atoms.push(Atom { p, q, c: random.whole(-reach..=reach / 4) });
         }
     }
     random.shuffle(&mut clause.atoms);

@@ -1,8 +1,8 @@
 //! The seeded generator of run files.
 //!
 //! A file comes of a kind: what its input looks like ([`problem`]) and how it is played ([`player`]).
-//! [`kinds`] differ in what they reach: many conflicts on few constants, bounds that lie close, wide
-//! clauses, full trails, many learned clauses, long runs, the longest file. One file of five is damaged
+//! [`kinds`] differ in what they reach: many conflicts on few constants, bounds that lie close, constants
+//! that lie far apart, wide clauses, full trails, many learned clauses, long runs, the longest file. One file of five is damaged
 //! ([`damage`]).
 //!
 //! Beside files there are sets of atoms ([`sets`]) and lookup tables ([`tables`]).

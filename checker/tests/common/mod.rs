@@ -2,6 +2,7 @@
 #![allow(dead_code)]
 
 use checker::clause::{Atom, Clause, Literal};
+use checker::constraint::Numbers;
 use checker::refusal::Refusal;
 use checker::state::State;
 use checker::step::Step;
@@ -26,6 +27,11 @@ pub fn at_most(x: u8, c: i32) -> Atom {
 /// x ≥ c
 pub fn at_least(x: u8, c: i32) -> Atom {
     atom(0, x, -c)
+}
+
+/// The constraint test's yes, with its numbers
+pub fn yes(numbers: &[i32]) -> Result<Option<Numbers>, Refusal> {
+    Ok(Some(numbers.to_vec()))
 }
 
 /// A literal: the predicate's number, negative for a negative literal, and its arguments.
@@ -76,7 +82,7 @@ pub fn grow(count: u8) -> Step {
 /// Takes steps that must all be accepted.
 pub fn accept(state: &mut State, steps: &[Step]) {
     for step in steps {
-        assert_eq!(state.take(step), Ok(()), "{step:?}");
+        assert_eq!(state.take(step).err(), None, "{step:?}");
     }
 }
 

@@ -131,6 +131,7 @@ impl Soak {
         let seen = self.seen.lock().expect("whole");
         let rate = seen.files as f64 / self.start.elapsed().as_secs_f64();
         let (files, steps, pairs) = (seen.files, seen.steps, seen.pairs());
-        format!("soak: {files} files, {steps} steps tried, {pairs}, {rate:.0} files/s")
+        let numbers: usize = seen.numbers().iter().map(|(_, lines)| lines).sum();
+        format!("soak: {files} files, {steps} steps tried, {numbers} lines of numbers, {pairs}, {rate:.0} files/s")
     }
 }
