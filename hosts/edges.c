@@ -24,9 +24,12 @@ struct tried {
     size_t most;
 };
 
-static const struct tried both[] = {
+#define TELLING 3
+
+static const struct tried telling[TELLING] = {
     {drf_judge, "drf_judge", DRF_MOST_LISTING},
     {drf_inspect, "drf_inspect", DRF_MOST_INSPECTION},
+    {drf_inspect_numbers, "drf_inspect_numbers", DRF_MOST_WITH_NUMBERS},
 };
 
 static int faults = 0;
@@ -224,12 +227,12 @@ int main(int count, char **words)
         return 2;
     uint8_t *file = (uint8_t *)blank(read.count);
     memcpy(file, read.bytes, read.count);
-    for (size_t k = 0; k < 2; k++) {
-        lengths(&both[k], file, read.count);
-        slots(&both[k], file, read.count);
-        nulls(&both[k], file, read.count);
+    for (size_t k = 0; k < TELLING; k++) {
+        lengths(&telling[k], file, read.count);
+        slots(&telling[k], file, read.count);
+        nulls(&telling[k], file, read.count);
+        hold(memcmp(file, read.bytes, read.count) == 0, &telling[k], "the file stays");
     }
-    hold(memcmp(file, read.bytes, read.count) == 0, &both[0], "the file stays");
     table_lengths(DRF_EXACT);
     table_lengths(DRF_APPROXIMATE);
     table_kinds();

@@ -1,7 +1,7 @@
 /* usage: host FILE..
- * A host in C, and C++: judges and inspects each run file, and then makes the clauses of small tables, on several threads at once, each with a
- * stack of DRF_STACK bytes, and prints what one of them was told. Status 0; 1 where a file can't be read or the threads are told different
- * things; 2 for no file. */
+ * A host in C, and C++: judges each run file and inspects it without numbers and with them, and then makes the clauses of small tables, on several
+ * threads at once, each with a stack of DRF_STACK bytes, and prints what one of them was told. Status 0; 1 where a file can't be read or the
+ * threads are told different things; 2 for no file. */
 #define _DEFAULT_SOURCE
 #include <pthread.h>
 #include <stdio.h>
@@ -32,9 +32,11 @@ struct work {
     const struct file *file;
     uint8_t listing[DRF_MOST_LISTING];
     uint8_t inspection[DRF_MOST_INSPECTION];
+    uint8_t numbers[DRF_MOST_WITH_NUMBERS];
     uint8_t clauses[TABLES][DRF_MOST_TABLE];
     struct drf_told judged;
     struct drf_told inspected;
+    struct drf_told numbered;
     struct drf_made made[TABLES];
 };
 
@@ -44,6 +46,7 @@ static void *work_on(void *given)
     const struct file *file = work->file;
     work->judged = drf_judged(file->bytes, file->count, work->listing, sizeof work->listing);
     work->inspected = drf_inspected(file->bytes, file->count, work->inspection, sizeof work->inspection);
+    work->numbered = drf_inspected_numbers(file->bytes, file->count, work->numbers, sizeof work->numbers);
     return NULL;
 }
 
@@ -85,6 +88,8 @@ static int agree(const struct work *works)
             return 0;
         if (!same(works[0].inspected, works[0].inspection, works[k].inspected, works[k].inspection))
             return 0;
+        if (!same(works[0].numbered, works[0].numbers, works[k].numbered, works[k].numbers))
+            return 0;
     }
     return 1;
 }
@@ -111,6 +116,7 @@ static int tell(const char *name, struct work *works, const struct stack *stacks
     printf("%s\n", name);
     print("judge", works[0].judged, works[0].listing);
     print("inspect", works[0].inspected, works[0].inspection);
+    print("inspect, numbers", works[0].numbered, works[0].numbers);
     return 1;
 }
 

@@ -1,6 +1,7 @@
 /* usage: stack FILE..
- * Measures the stack of a thread that judges or inspects each file, and of one that makes the clauses of a full table: a stack is painted, and
- * the lowest byte that a thread changed says how far it went. Status 1 where less than SPARE of DRF_STACK is left. */
+ * Measures the stack of a thread that judges each file, or inspects it without numbers or with them, and of one that makes the clauses of a full
+ * table: a stack is painted, and the lowest byte that a thread changed says how far it went. Status 1 where less than SPARE of DRF_STACK is
+ * left. */
 #define _DEFAULT_SOURCE
 #include <pthread.h>
 #include <stdio.h>
@@ -17,11 +18,25 @@
 #define MEASURED (2 * DRF_STACK)
 #define KIB 1024
 
+/* What tells of a file, and how the thread that calls it is named */
+struct telling {
+    uint64_t (*call)(const uint8_t *, size_t, uint8_t *, size_t, uint64_t *, size_t);
+    const char *named;
+};
+
+#define TELLING 3
+
+static const struct telling telling[TELLING] = {
+    {drf_judge, "judges"},
+    {drf_inspect, "inspects"},
+    {drf_inspect_numbers, "inspects with numbers"},
+};
+
 /* What a thread does */
 struct work {
-    int inspects;
+    const struct telling *tells;
     struct file file;
-    uint8_t out[DRF_MOST_INSPECTION];
+    uint8_t out[DRF_MOST_WITH_NUMBERS];
 };
 
 static void *no_work(void *given)
@@ -33,10 +48,7 @@ static void *work_on(void *given)
 {
     struct work *work = (struct work *)given;
     uint64_t ends[2];
-    if (work->inspects)
-        drf_inspect(work->file.bytes, work->file.count, work->out, sizeof work->out, ends, 2);
-    else
-        drf_judge(work->file.bytes, work->file.count, work->out, sizeof work->out, ends, 2);
+    work->tells->call(work->file.bytes, work->file.count, work->out, sizeof work->out, ends, 2);
     return given;
 }
 
@@ -141,19 +153,22 @@ static void print_least(struct work *work)
         printf("there is none\n");
 }
 
-/* The depths of threads that judge, and of those that inspect, over all files named, and the work of the deepest; or none where a file can't
- * be read */
+/* The depths of threads that tell of each file named, by what tells, and the work of the deepest; or none where a file can't be read */
 static int measure(char **names, int count, struct stack stack, struct work *deep, struct range *seen)
 {
     static struct work work;
+    size_t most = 0;
     for (int k = 0; k < count; k++) {
         if (!read_file(names[k], &work.file))
             return 0;
-        for (work.inspects = 0; work.inspects < 2; work.inspects++) {
+        for (int j = 0; j < TELLING; j++) {
+            work.tells = &telling[j];
             size_t depth = deepest(stack, work_on, &work);
-            if (depth > seen[0].most && depth > seen[1].most)
+            note(&seen[j], depth);
+            if (depth > most) {
+                most = depth;
                 *deep = work;
-            note(&seen[work.inspects], depth);
+            }
         }
     }
     return 1;
@@ -162,23 +177,29 @@ static int measure(char **names, int count, struct stack stack, struct work *dee
 int main(int count, char **words)
 {
     static struct work deep;
-    struct range seen[2] = {{MEASURED, 0}, {MEASURED, 0}};
+    struct range seen[TELLING];
     if (count < 2) {
         fprintf(stderr, "usage: stack FILE..\n");
         return 2;
+    }
+    for (int k = 0; k < TELLING; k++) {
+        seen[k].least = MEASURED;
+        seen[k].most = 0;
     }
     struct stack stack = some_stack(MEASURED);
     size_t empty = deepest(stack, no_work, NULL);
     if (!measure(words + 1, count - 1, stack, &deep, seen))
         return 2;
     size_t table = deepest(stack, make_table, &deep);
+    size_t most = table;
+    printf("stack: over %d files\n", count - 1);
     printf("stack: %zu bytes of a thread that does nothing\n", empty);
-    printf("stack: %zu to %zu bytes of one that judges, over %d files\n", seen[0].least, seen[0].most, count - 1);
-    printf("stack: %zu to %zu bytes of one that inspects\n", seen[1].least, seen[1].most);
+    for (int k = 0; k < TELLING; k++) {
+        printf("stack: %zu to %zu bytes of one that %s\n", seen[k].least, seen[k].most, telling[k].named);
+        most = most < seen[k].most ? seen[k].most : most;
+    }
     printf("stack: %zu bytes of one that makes the clauses of a table\n", table);
     print_least(&deep);
-    size_t most = seen[0].most < seen[1].most ? seen[1].most : seen[0].most;
-    most = most < table ? table : most;
     printf("stack: %d bytes are stated, and %ld of them to spare\n", DRF_STACK, (long)DRF_STACK - (long)most);
     return most + SPARE <= DRF_STACK ? 0 : 1;
 }

@@ -1,16 +1,20 @@
 /* The proved judge of run files, and clauses from a lookup table, for C99 and C++. docs/INTEGRATION.md says how it is built and linked, and
  * what is proved of it.
  *
- * drf_judge writes the listing of a file, drf_inspect the listing and after it the final state. What holds of both, whatever the file's
- * bytes are:
+ * drf_judge writes the listing of a file, drf_inspect the listing and after it the final state, drf_inspect_numbers the same with the numbers
+ * that accepted steps hand on. What holds of the three, whatever the file's bytes are:
  *
  * - Read are the file_len bytes from file on. They stay as they are. Of more than DRF_MOST_READ bytes is told what is told of the first.
  * - The text is written from out on, and its length is answered. It ends with a newline, and no zero byte is put after it: the bytes of the
  *   buffer past it stay as they were.
- * - 0 is answered exactly if the buffer is short: out_len below DRF_MOST_LISTING (drf_judge) or DRF_MOST_INSPECTION (drf_inspect), however
- *   short the text would be. Then nothing is written, to ends neither.
+ * - 0 is answered exactly if the buffer is short: out_len below DRF_MOST_LISTING (drf_judge), DRF_MOST_INSPECTION (drf_inspect) or
+ *   DRF_MOST_WITH_NUMBERS (drf_inspect_numbers), however short the text would be. Then nothing is written, to ends neither.
  * - Else, if ends_len is 2 or more, ends[0] is the number and ends[1] the place that judging ended with, and the other slots stay. If it is
  *   0 or 1, ends stays.
+ *
+ * After the line of each accepted Propagate, Conflict and Backtrack drf_inspect_numbers writes one more: the word numbers, and for each constant,
+ * in their order, a space and its number. The numbers rise, and every atom that the step asks about holds of them; docs/FORMAT.md says which
+ * they are.
  *
  * drf_table writes the input clauses of a lookup table, as a run file has them and without their number. What holds of it, whatever the
  * numbers are:
@@ -24,7 +28,7 @@
  *   DRF_TOO_MANY_ROWS, DRF_NOT_IN_ORDER or DRF_BUFFER_SHORT, the first of them that is so. A buffer is short exactly if the clauses do not
  *   fit.
  *
- * What holds of all three: nothing else is written, and nothing is kept: no allocation, no global state, no lock, no call of the system. So
+ * What holds of all four: nothing else is written, and nothing is kept: no allocation, no global state, no lock, no call of the system. So
  * they may be called from any thread, and from many at once; these may share what is read.
  *
  * What they count on:
@@ -54,6 +58,9 @@ extern "C" {
 /* A buffer of so many bytes has room for every listing with its final state. */
 #define DRF_MOST_INSPECTION 136078
 
+/* A buffer of so many bytes has room for every listing with its final state and the numbers that steps hand on. */
+#define DRF_MOST_WITH_NUMBERS 536078
+
 /* "Make the input clauses from up to 48 rows of key and result." */
 #define DRF_MOST_ROWS 48
 
@@ -68,6 +75,7 @@ extern "C" {
 
 uint64_t drf_judge(const uint8_t *file, size_t file_len, uint8_t *out, size_t out_len, uint64_t *ends, size_t ends_len);
 uint64_t drf_inspect(const uint8_t *file, size_t file_len, uint8_t *out, size_t out_len, uint64_t *ends, size_t ends_len);
+uint64_t drf_inspect_numbers(const uint8_t *file, size_t file_len, uint8_t *out, size_t out_len, uint64_t *ends, size_t ends_len);
 uint32_t drf_table(const int32_t *keys, size_t keys_len, const int32_t *results, size_t results_len, uint8_t approximate, uint8_t *out,
                    size_t out_len);
 
@@ -114,12 +122,13 @@ struct drf_told {
     uint64_t place; /* of refusal 12 the literal, of a bad file the byte; else 0 */
 };
 
-/* The verdict of a text that drf_judge or drf_inspect wrote. A step's line begins with its number, so the first line that does not is the
- * listing's last, or a bad file's only one; the final state comes after it and is not reached. The four differ in their first letter. */
+/* The verdict of a text that drf_judge, drf_inspect or drf_inspect_numbers wrote. A step's line begins with its number, and a line of numbers with
+ * an n. So the first line that begins with neither is the listing's last, or a bad file's only one; the final state comes after it and is not
+ * reached. The four differ in their first letter. */
 static inline enum drf_verdict drf_verdict_of(const uint8_t *text, size_t count)
 {
     size_t at = 0;
-    while (at < count && text[at] >= '0' && text[at] <= '9') {
+    while (at < count && ((text[at] >= '0' && text[at] <= '9') || text[at] == 'n')) {
         while (at < count && text[at] != '\n')
             at++;
         at++;
@@ -180,6 +189,14 @@ static inline struct drf_told drf_inspected(const uint8_t *file, size_t file_len
 {
     uint64_t ends[2] = {0, 0};
     uint64_t count = drf_inspect(file, file_len, out, out_len, ends, 2);
+    return drf_told_of(count, out, ends);
+}
+
+/* drf_inspect_numbers with a typed result */
+static inline struct drf_told drf_inspected_numbers(const uint8_t *file, size_t file_len, uint8_t *out, size_t out_len)
+{
+    uint64_t ends[2] = {0, 0};
+    uint64_t count = drf_inspect_numbers(file, file_len, out, out_len, ends, 2);
     return drf_told_of(count, out, ends);
 }
 

@@ -1,10 +1,10 @@
 //! usage: host FILE..
-//! A host in Rust: judges and inspects each run file, and then makes the clauses of small tables, on several threads at once, each with a
-//! stack of `drf::STACK` bytes, and prints what one of them was told. Status 0; 1 where a file can't be read or the threads are told different
-//! things; 2 for no file.
+//! A host in Rust: judges each run file and inspects it without numbers and with them, and then makes the clauses of small tables, on several
+//! threads at once, each with a stack of `drf::STACK` bytes, and prints what one of them was told. Status 0; 1 where a file can't be read or the
+//! threads are told different things; 2 for no file.
 
-use drf::{inspect, judge, refusal, table, Match, Refused, Told, Verdict};
-use drf::{MOST_INSPECTION, MOST_READ, MOST_TABLE, STACK};
+use drf::{inspect, inspect_numbers, judge, refusal, table, Match, Refused, Told, Verdict};
+use drf::{MOST_READ, MOST_TABLE, MOST_WITH_NUMBERS, STACK};
 use std::env;
 use std::ffi::OsString;
 use std::fs::File;
@@ -38,14 +38,16 @@ impl Kept {
     }
 }
 
-/// The listing, and the listing with the final state
-type Both = [Kept; 2];
+/// The listing, the listing with the final state, and both with the numbers that steps hand on
+type Texts = [Kept; 3];
 
-fn both(file: &[u8]) -> Result<Both, drf::Short> {
-    let mut out = vec![0; MOST_INSPECTION];
+fn texts(file: &[u8]) -> Result<Texts, drf::Short> {
+    // Long enough for each
+    let mut out = vec![0; MOST_WITH_NUMBERS];
     let listing = Kept::of(judge(file, &mut out)?);
     let inspection = Kept::of(inspect(file, &mut out)?);
-    Ok([listing, inspection])
+    let numbered = Kept::of(inspect_numbers(file, &mut out)?);
+    Ok([listing, inspection, numbered])
 }
 
 /// A table by its keys, each of which is its own result, and the kind of match
@@ -87,22 +89,23 @@ fn on_all<T: PartialEq + Send + 'static>(
 }
 
 /// What all threads are told of a file
-fn told(file: Vec<u8>) -> io::Result<Both> {
+fn told(file: Vec<u8>) -> io::Result<Texts> {
     let file = Arc::new(file);
-    on_all(move || both(&file))?.map_err(io::Error::other)
+    on_all(move || texts(&file))?.map_err(io::Error::other)
 }
 
-fn tell(name: &Path) -> io::Result<Both> {
+fn tell(name: &Path) -> io::Result<Texts> {
     let mut file = Vec::new();
     File::open(name)?.take(MOST_READ as u64).read_to_end(&mut file)?;
     told(file)
 }
 
-fn print(name: &Path, both: &Both, to: &mut impl Write) -> io::Result<()> {
+fn print(name: &Path, texts: &Texts, to: &mut impl Write) -> io::Result<()> {
     writeln!(to, "{}", name.display())?;
-    let [listing, inspection] = both;
+    let [listing, inspection, numbered] = texts;
     listing.print("judge", to)?;
-    inspection.print("inspect", to)
+    inspection.print("inspect", to)?;
+    numbered.print("inspect, numbers", to)
 }
 
 /// The bytes of clauses, a clause a line: three counts, of which the second is that of its atoms, six bytes for each of these, and four for the
@@ -134,7 +137,7 @@ fn run(names: &[OsString]) -> io::Result<ExitCode> {
     let mut status = ExitCode::SUCCESS;
     for name in names.iter().map(Path::new) {
         match tell(name) {
-            Ok(both) => print(name, &both, &mut to)?,
+            Ok(texts) => print(name, &texts, &mut to)?,
             Err(fault) => {
                 eprintln!("{}: {fault}", name.display());
                 status = ExitCode::FAILURE;

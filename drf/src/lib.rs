@@ -1,4 +1,4 @@
-//! The proved judge of run files, and clauses from a lookup table, behind safe functions. `include/drf.h` declares the same three for C and
+//! The proved judge of run files, and clauses from a lookup table, behind safe functions. `include/drf.h` declares the same four for C and
 //! says what holds of each; `docs/INTEGRATION.md` says what is proved of them, and what of this crate is not.
 //!
 //! ```
@@ -19,6 +19,9 @@ pub const MOST_LISTING: usize = 54_008;
 
 /// A buffer of so many bytes has room for every listing with its final state, and a shorter one is refused.
 pub const MOST_INSPECTION: usize = 136_078;
+
+/// A buffer of so many bytes has room for every listing with its final state and the numbers that steps hand on, and a shorter one is refused.
+pub const MOST_WITH_NUMBERS: usize = 536_078;
 
 /// "Make the input clauses from up to 48 rows of key and result": a table with more is refused.
 pub const MOST_ROWS: usize = 48;
@@ -70,6 +73,14 @@ extern "C" {
         ends_len: usize,
     ) -> u64;
     fn drf_inspect(
+        file: *const u8,
+        file_len: usize,
+        out: *mut u8,
+        out_len: usize,
+        ends: *mut u64,
+        ends_len: usize,
+    ) -> u64;
+    fn drf_inspect_numbers(
         file: *const u8,
         file_len: usize,
         out: *mut u8,
@@ -149,6 +160,13 @@ pub fn inspect<'a>(file: &[u8], out: &'a mut [u8]) -> Result<Told<'a>, Short> {
     told(drf_inspect, file, out)
 }
 
+/// What `inspect` writes, with the numbers that accepted steps hand on. Beneath the line of each accepted Propagate, Conflict and Backtrack stands
+/// one more: `numbers`, and for each constant, in their order, a space and its number. The numbers rise, and every atom that the step asks about
+/// holds of them; `docs/FORMAT.md` says which they are. Short exactly below `MOST_WITH_NUMBERS` bytes.
+pub fn inspect_numbers<'a>(file: &[u8], out: &'a mut [u8]) -> Result<Told<'a>, Short> {
+    told(drf_inspect_numbers, file, out)
+}
+
 fn told<'a>(exported: Exported, file: &[u8], out: &'a mut [u8]) -> Result<Told<'a>, Short> {
     let mut ends = [0; 2];
     // SAFETY: each pointer is a slice's own, with its length beside it: never null, and aligned. The three slices are alive until the call
@@ -176,12 +194,14 @@ fn told<'a>(exported: Exported, file: &[u8], out: &'a mut [u8]) -> Result<Told<'
 
 /// The verdict of a text that was written. It is no part of what is proved, and rests on the form of the text, which is: `w ++ after`, with a
 /// line in w for each step tried, or a bad file's only line (`Printed` in crates/listing/specs/Listing.antt). A step's line begins with its
-/// number in decimal digits, and `after` begins with the listing's last line, which is one of three words, for `inspect` too (`inspected`
-/// in crates/judging/specs/Judging.antt). So the first line that does not begin with a digit is that last line or a bad file's, and the
-/// lines of the final state, which come after it, are not reached.
+/// number in decimal digits, and beneath it can stand a line that begins with `numbers` (`numbersLine` in
+/// crates/inspection/specs/NumbersText.antt); `after` begins with the listing's last line, which is one of three words, for `inspect` and
+/// `inspect_numbers` too (`inspected` in crates/judging/specs/Judging.antt). So the first line that begins with neither is that last line or a
+/// bad file's, and the lines of the final state, which come after it, are not reached.
 fn verdict(text: &[u8]) -> Verdict {
     let mut lines = text.split(|byte| *byte == b'\n');
-    match lines.find(|line| !line.first().is_some_and(u8::is_ascii_digit)) {
+    let of_step = |line: &[u8]| line.first().is_some_and(u8::is_ascii_digit);
+    match lines.find(|line| !of_step(line) && !line.starts_with(b"numbers")) {
         Some(b"refuted") => Verdict::Refuted,
         Some(b"open") => Verdict::Open,
         Some(b"stopped") => Verdict::Stopped,

@@ -40,9 +40,11 @@ fn defined(header: &str) -> BTreeMap<String, usize> {
 fn buffers() {
     let header = defined(&text("include/drf.h"));
     let judging = constants(&text("crates/judging/src/lib.rt"), "usize");
-    for (name, ours) in
-        [("MOST_LISTING", drf::MOST_LISTING), ("MOST_INSPECTION", drf::MOST_INSPECTION)]
-    {
+    for (name, ours) in [
+        ("MOST_LISTING", drf::MOST_LISTING),
+        ("MOST_INSPECTION", drf::MOST_INSPECTION),
+        ("MOST_WITH_NUMBERS", drf::MOST_WITH_NUMBERS),
+    ] {
         assert_eq!(header.get(name), Some(&ours), "{name} in include/drf.h");
         assert_eq!(judging.get(name), Some(&ours), "{name} in crates/judging");
     }
