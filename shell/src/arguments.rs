@@ -35,8 +35,16 @@ struct Asked {
     /// Whatever else is asked for
     first: Option<Request>,
     threads: usize,
-    /// Those that go with `table` alone, in their order
-    of_table: Vec<&'static str>,
+    /// Those that go with one command alone, in their order
+    own: Vec<Own>,
+}
+
+/// An option that goes with one command alone
+#[derive(Clone, Copy, PartialEq, Eq)]
+struct Own {
+    name: &'static str,
+    /// The command's word
+    command: &'static str,
 }
 
 /// An option: how it is written, and what it asks for. `help.txt` lists the same.
@@ -51,15 +59,17 @@ enum Effect {
     Takes(fn(&mut Asked, Option<&OsStr>) -> Result<(), String>),
 }
 
-const EXACT: &str = "--exact";
-const APPROXIMATE: &str = "--approximate";
-const TEXT: &str = "--text";
+const NUMBERS: Own = Own { name: "--numbers", command: "inspect" };
+const EXACT: Own = Own { name: "--exact", command: "table" };
+const APPROXIMATE: Own = Own { name: "--approximate", command: "table" };
+const TEXT: Own = Own { name: "--text", command: "table" };
 
-const OPTIONS: [Entry; 6] = [
+const OPTIONS: [Entry; 7] = [
     Entry { names: &["-j"], effect: Effect::Takes(threads) },
-    Entry { names: &[EXACT], effect: Effect::Sets(|asked| asked.of_table.push(EXACT)) },
-    Entry { names: &[APPROXIMATE], effect: Effect::Sets(|asked| asked.of_table.push(APPROXIMATE)) },
-    Entry { names: &[TEXT], effect: Effect::Sets(|asked| asked.of_table.push(TEXT)) },
+    Entry { names: &[NUMBERS.name], effect: Effect::Sets(|asked| asked.own.push(NUMBERS)) },
+    Entry { names: &[EXACT.name], effect: Effect::Sets(|asked| asked.own.push(EXACT)) },
+    Entry { names: &[APPROXIMATE.name], effect: Effect::Sets(|asked| asked.own.push(APPROXIMATE)) },
+    Entry { names: &[TEXT.name], effect: Effect::Sets(|asked| asked.own.push(TEXT)) },
     Entry {
         names: &["-h", "--help"],
         effect: Effect::Sets(|asked| asked.first = Some(Request::Help)),
@@ -74,7 +84,7 @@ const OPTIONS: [Entry; 6] = [
 pub fn read(mut words: impl Iterator<Item = OsString>) -> Result<Request, String> {
     let cores = available_parallelism().map_or(1, NonZero::get);
     let threads = cores.min(MOST_THREADS);
-    let mut asked = Asked { first: None, threads, of_table: Vec::new() };
+    let mut asked = Asked { first: None, threads, own: Vec::new() };
     let mut operands = Vec::new();
     while let Some(word) = words.next() {
         if word == "--" {
@@ -135,7 +145,7 @@ fn job(operands: Vec<OsString>, asked: &Asked) -> Result<Job, String> {
         .iter()
         .find(|command| word == command.word)
         .ok_or(format!("unknown command {}: it is none of {words}", on_one_line(&word)))?;
-    let work = with_options(command, &asked.of_table)?;
+    let work = with_options(command, &asked.own)?;
     let sources: Vec<Source> = operands.map(Source::of).collect();
     let inputs = sources.iter().filter(|source| **source == Source::Input).count();
     match sources.len() {
@@ -146,27 +156,34 @@ fn job(operands: Vec<OsString>, asked: &Asked) -> Result<Job, String> {
     }
 }
 
-/// A command's task with these options of `table`, which no other command takes.
-fn with_options(command: &Command, of_table: &[&str]) -> Result<Work, String> {
+/// A command's task with these options, all of which must be its own.
+fn with_options(command: &Command, own: &[Own]) -> Result<Work, String> {
     let word = command.word;
-    match (&command.task, of_table) {
-        (Task::Plain(task), []) => Ok(Box::new(*task)),
-        (Task::Plain(_), [option, ..]) => Err(format!("{word}: {option} goes with table alone")),
-        (Task::Table(task), options) => {
-            let (task, kind) = (*task, kind_of_match(word, options)?);
-            let form = if options.contains(&TEXT) { Form::Text } else { Form::Bytes };
+    if let Some(other) = own.iter().find(|option| option.command != word) {
+        return Err(format!("{word}: {} goes with {} alone", other.name, other.command));
+    }
+    match command.task {
+        Task::Plain(task) => Ok(Box::new(task)),
+        Task::Inspect(task) => {
+            let numbers = own.contains(&NUMBERS);
+            Ok(Box::new(move |source| task(source, numbers)))
+        }
+        Task::Table(task) => {
+            let kind = kind_of_match(word, own)?;
+            let form = if own.contains(&TEXT) { Form::Text } else { Form::Bytes };
             Ok(Box::new(move |source| task(source, kind, form)))
         }
     }
 }
 
 /// The one kind of match that is asked for
-fn kind_of_match(word: &str, options: &[&str]) -> Result<Match, String> {
-    match (options.contains(&EXACT), options.contains(&APPROXIMATE)) {
+fn kind_of_match(word: &str, own: &[Own]) -> Result<Match, String> {
+    let [exact, approximate] = [EXACT.name, APPROXIMATE.name];
+    match (own.contains(&EXACT), own.contains(&APPROXIMATE)) {
         (true, false) => Ok(Match::Exact),
         (false, true) => Ok(Match::Approximate),
-        (true, true) => Err(format!("{word} takes one of {EXACT} and {APPROXIMATE}")),
-        (false, false) => Err(format!("{word} takes {EXACT} or {APPROXIMATE}")),
+        (true, true) => Err(format!("{word} takes one of {exact} and {approximate}")),
+        (false, false) => Err(format!("{word} takes {exact} or {approximate}")),
     }
 }
 
@@ -204,6 +221,18 @@ mod tests {
             // `run` knows by a capital letter that a word follows.
             assert_eq!(line[names.len()].chars().all(char::is_uppercase), takes, "{line:?}");
         }
+    }
+
+    /// `run` knows by the colon with which command an option goes.
+    #[test]
+    fn the_help_says_with_which_command_an_option_goes() {
+        let listed: Vec<_> = part("Options")
+            .iter()
+            .filter_map(|line| Some((line[0], line[1].strip_suffix(':')?)))
+            .collect();
+        let own = [NUMBERS, EXACT, APPROXIMATE, TEXT].map(|option| (option.name, option.command));
+        assert_eq!(listed, own);
+        assert!(own.iter().all(|(_, word)| COMMANDS.iter().any(|command| command.word == *word)));
     }
 
     #[test]

@@ -3,7 +3,8 @@
 use crate::status::Status;
 use crate::streams::{reason, Source};
 use crate::tables::{table, Form};
-use drf::{Match, Short, Told, Verdict, MOST_INSPECTION, MOST_LISTING, MOST_READ};
+use drf::{Match, Short, Told, Verdict};
+use drf::{MOST_INSPECTION, MOST_LISTING, MOST_READ, MOST_WITH_NUMBERS};
 use shell::text::{self, MOST_TEXT};
 
 pub struct Command {
@@ -16,13 +17,15 @@ pub struct Command {
 /// What a command makes of a file
 pub enum Task {
     Plain(fn(&Source) -> Outcome),
+    /// By whether numbers are asked for
+    Inspect(fn(&Source, bool) -> Outcome),
     /// By the options that go with `table` alone
     Table(fn(&Source, Match, Form) -> Outcome),
 }
 
 pub const COMMANDS: [Command; 5] = [
     Command { word: "judge", several: true, task: Task::Plain(judge) },
-    Command { word: "inspect", several: true, task: Task::Plain(inspect) },
+    Command { word: "inspect", several: true, task: Task::Inspect(inspect) },
     Command { word: "text", several: false, task: Task::Plain(text) },
     Command { word: "bytes", several: false, task: Task::Plain(bytes) },
     Command { word: "table", several: false, task: Task::Table(table) },
@@ -49,7 +52,10 @@ fn judge(source: &Source) -> Outcome {
     carried(drf::judge, MOST_LISTING, source)
 }
 
-fn inspect(source: &Source) -> Outcome {
+fn inspect(source: &Source, numbers: bool) -> Outcome {
+    if numbers {
+        return carried(drf::inspect_numbers, MOST_WITH_NUMBERS, source);
+    }
     carried(drf::inspect, MOST_INSPECTION, source)
 }
 

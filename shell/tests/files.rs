@@ -4,17 +4,24 @@ mod common;
 
 use checker::generate::generate;
 use common::{first, open, stopped, Ended, Folder, FIRST, ROOT};
-use drf::{inspect, judge, Verdict, MOST_INSPECTION};
+use drf::{inspect, inspect_numbers, judge, Verdict, MOST_WITH_NUMBERS};
 use std::fs;
 use std::process::Command;
 
 /// More than are held at a time
 const GENERATED: u64 = 300;
 
+/// The commands that tell of a file, with their options
+const TELLING: [&[&str]; 3] = [&["judge"], &["inspect"], &["inspect", "--numbers"]];
+
 /// What must be printed of a file, and the status
-fn told(command: &str, file: &[u8]) -> (String, i32) {
-    let mut buffer = vec![0; MOST_INSPECTION];
-    let core = if command == "judge" { judge } else { inspect };
+fn told(command: &[&str], file: &[u8]) -> (String, i32) {
+    let mut buffer = vec![0; MOST_WITH_NUMBERS];
+    let core = match command {
+        ["judge"] => judge,
+        ["inspect"] => inspect,
+        _ => inspect_numbers,
+    };
     let told = core(file, &mut buffer).expect("the buffer is long enough");
     let status = match told.verdict {
         Verdict::Refuted => 0,
@@ -65,10 +72,10 @@ fn each_verdict_has_its_status() {
 fn one_file_is_the_proved_buffer() {
     let folder = Folder::new("one");
     for (name, file) in files(&folder) {
-        for command in ["judge", "inspect"] {
+        for command in TELLING {
             let (text, status) = told(command, &file);
             let expected = Ended { status: Some(status), out: text, err: String::new() };
-            assert_eq!(drf(&folder, &[command, &name]), expected, "{command} {name}");
+            assert_eq!(drf(&folder, &[command, &[&name]].concat()), expected, "{command:?} {name}");
         }
     }
 }
@@ -77,7 +84,7 @@ fn one_file_is_the_proved_buffer() {
 fn several_files_in_their_order() {
     let folder = Folder::new("several");
     let files = files(&folder);
-    for command in ["judge", "inspect"] {
+    for command in TELLING {
         let told: Vec<_> = files.iter().map(|(_, file)| told(command, file)).collect();
         let parts =
             files.iter().zip(&told).map(|((name, _), (text, _))| format!("file {name}\n{text}"));
@@ -94,9 +101,9 @@ fn several_files_in_their_order() {
         let expected = Ended { status: Some(30), out, err };
         assert!([0, 10, 20, 30].into_iter().all(|status| count(status) > 0), "{expected:?}");
         for threads in ["1", "2", "8", "256"] {
-            let mut words = vec![command, "-j", threads];
+            let mut words = [command, &["-j", threads]].concat();
             words.extend(files.iter().map(|(name, _)| name.as_str()));
-            assert!(drf(&folder, &words) == expected, "{command} -j {threads}");
+            assert!(drf(&folder, &words) == expected, "{command:?} -j {threads}");
         }
     }
 }
@@ -158,7 +165,7 @@ fn described() -> String {
 fn text_and_back() {
     let folder = Folder::new("text");
     for (name, file) in files(&folder) {
-        if told("judge", &file).1 == 30 {
+        if told(&["judge"], &file).1 == 30 {
             continue;
         }
         let script = format!("drf text '{name}' | drf bytes - | cmp '{name}' -");

@@ -28,6 +28,18 @@ fn inspection(file: &[u8]) -> String {
     String::from_utf8_lossy(told.text).into_owned()
 }
 
+fn numbered(file: &[u8]) -> String {
+    let mut out = vec![0; drf::MOST_WITH_NUMBERS];
+    let told = drf::inspect_numbers(file, &mut out).expect("the buffer has room for all numbers");
+    String::from_utf8_lossy(told.text).into_owned()
+}
+
+/// The same above the final state
+fn numbered_listing(file: &[u8]) -> String {
+    let text = numbered(file);
+    text.split_inclusive('\n').take_while(|line| !line.starts_with("constants ")).collect()
+}
+
 /// The run file that a text says
 fn said(text: &str) -> Vec<u8> {
     shell::text::bytes(text.as_bytes()).unwrap_or_else(|fault| panic!("{fault}, in\n{text}"))
@@ -196,20 +208,26 @@ fn texts_are_the_sources_of_the_files() {
 
 #[test]
 fn examples_have_their_listings() {
-    let mut told = Vec::new();
+    let (mut told, mut with_numbers) = (Vec::new(), 0);
     for section in sections("docs/EXAMPLES.md") {
         let file = section.heading.split('`').nth(1);
         if file == Some(CODES) {
             continue;
         }
-        let listings: Vec<&str> = section.blocks.iter().map(|block| block.body.as_str()).collect();
-        assert!(section.blocks.iter().all(|block| block.kind == "listing"), "{}", section.heading);
-        match file {
-            Some(file) => assert_eq!(listings, [listing(&read(file))], "{file}"),
-            None => assert!(listings.is_empty(), "{}: a listing of no file", section.heading),
+        let Some(file) = file else {
+            assert!(section.blocks.is_empty(), "{}: a listing of no file", section.heading);
+            continue;
+        };
+        let run = read(file);
+        let printed = [("listing", listing(&run)), ("numbers", numbered_listing(&run))];
+        assert!((1..=printed.len()).contains(&section.blocks.len()), "{file}");
+        for (block, (kind, text)) in section.blocks.iter().zip(printed) {
+            assert_eq!((block.kind.as_str(), &block.body), (kind, &text), "{file}");
         }
-        told.extend(file.map(str::to_string));
+        told.push(file.to_string());
+        with_numbers += section.blocks.len() - 1;
     }
+    assert_eq!(with_numbers, 2);
     told.sort();
     let files: Vec<String> =
         examples("drf").iter().map(|name| format!("examples/{name}.drf")).collect();
@@ -499,6 +517,7 @@ fn source(name: &str) -> usize {
         "MOST_READ" => drf::MOST_READ,
         "MOST_LISTING" => drf::MOST_LISTING,
         "MOST_INSPECTION" => drf::MOST_INSPECTION,
+        "MOST_WITH_NUMBERS" => drf::MOST_WITH_NUMBERS,
         "MOST_TEXT" => shell::text::MOST_TEXT,
         "MOST_TABLE" => drf::MOST_TABLE,
         "MOST_STEPS" => constant("crates/fields/src/lib.rt", "const MOST_STEPS: u32 = "),
@@ -673,6 +692,16 @@ fn inspection_is_as_the_page_says() {
     assert!(!pairs.is_empty());
     for (run, shown) in pairs {
         assert_eq!(shown.body, inspection(&run.file()));
+    }
+}
+
+#[test]
+fn numbers_are_as_the_page_says() {
+    let section = section(FORMAT, "The numbers behind a yes");
+    let pairs = section.pairs("numbers");
+    assert!(!pairs.is_empty());
+    for (run, shown) in pairs {
+        assert_eq!(shown.body, numbered(&run.file()));
     }
 }
 
