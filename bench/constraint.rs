@@ -1,6 +1,9 @@
-//! Times the constraint test against a straightforward Floyd-Warshall on the same sets of atoms, and sees that both answer alike.
-//! 16 constants; 40, 80, 160 and 184 atoms; possible and impossible sets, from a fixed seed.
+//! Times the constraint test against a straightforward Floyd-Warshall on the same sets of atoms, and sees that both answer alike, and give the same
+//! numbers with a yes.
 
+mod sets;
+
+use sets::{Row, Set, CONSTANTS, PLACES};
 use std::hint::black_box;
 use std::time::{Duration, Instant};
 
@@ -8,18 +11,10 @@ use std::time::{Duration, Instant};
 extern "C" {
     // A slice is handed over as its start and its length.
     fn drf_possible(constants: u8, count: u8, places: *const u8, places_len: usize, bounds: *const i32, bounds_len: usize) -> u32;
+    fn drf_numbers(constants: u8, count: u8, places: *const u8, places_len: usize, bounds: *const i32, bounds_len: usize, numbers: *mut i32, numbers_len: usize) -> u32;
 }
 
-const CONSTANTS: usize = 16;
-const PLACES: usize = CONSTANTS + 1;
-const SETS: usize = 64;
 const EACH: Duration = Duration::from_millis(400);
-
-/// Atoms as the exported test takes them: p and q by turns, and the c of each.
-struct Set {
-    places: Vec<u8>,
-    bounds: Vec<i32>,
-}
 
 fn ours(set: &Set) -> bool {
     let answer = unsafe {
@@ -29,7 +24,35 @@ fn ours(set: &Set) -> bool {
     answer == 1
 }
 
+/// The numbers behind a yes
+fn our_numbers(set: &Set) -> Option<Vec<i64>> {
+    let mut numbers = [0; CONSTANTS];
+    let (places, bounds) = (&set.places, &set.bounds);
+    let answer = unsafe {
+        drf_numbers(CONSTANTS as u8, bounds.len() as u8, places.as_ptr(), places.len(), bounds.as_ptr(), bounds.len(), numbers.as_mut_ptr(), numbers.len())
+    };
+    (answer == 1).then(|| numbers.map(i64::from).to_vec())
+}
+
+type Square = [[i64; PLACES]; PLACES];
+
 fn floyd_warshall(set: &Set) -> bool {
+    is_possible(&closed(set))
+}
+
+fn is_possible(d: &Square) -> bool {
+    (0..PLACES).all(|i| d[i][i] >= 0)
+}
+
+/// The same numbers: at each place the largest that no bound, and not 0, forbids, less that of zero
+fn their_numbers(set: &Set) -> Option<Vec<i64>> {
+    let d = closed(set);
+    let largest = |i: usize| d[i].into_iter().fold(0, i64::min);
+    is_possible(&d).then(|| (1..PLACES).map(|i| largest(i) - largest(0)).collect())
+}
+
+#[inline(always)]
+fn closed(set: &Set) -> Square {
     const NONE: i64 = i64::MAX / 4;
     let mut d = [[NONE; PLACES]; PLACES];
     for i in 0..PLACES {
@@ -54,49 +77,7 @@ fn floyd_warshall(set: &Set) -> bool {
             }
         }
     }
-    (0..PLACES).all(|i| d[i][i] >= 0)
-}
-
-/// Numbers from a fixed seed (xorshift).
-struct Dice(u64);
-
-impl Dice {
-    fn below(&mut self, n: u64) -> u64 {
-        self.0 ^= self.0 << 13;
-        self.0 ^= self.0 >> 7;
-        self.0 ^= self.0 << 17;
-        self.0 % n
-    }
-
-    fn place(&mut self) -> usize {
-        self.below(PLACES as u64) as usize
-    }
-}
-
-/// Atoms that hold of rising numbers; in an impossible set two of them, at random places, contradict each other by 1.
-fn set(dice: &mut Dice, count: usize, possible: bool) -> Set {
-    let mut value = [0i64; PLACES];
-    let mut next = -(dice.below(400_000) as i64);
-    for v in value.iter_mut().skip(1) {
-        *v = next;
-        next += 1 + dice.below(40_000) as i64;
-    }
-    let mut atoms = Vec::new();
-    for _ in 0..count {
-        let p = dice.place();
-        let q = (p + 1 + dice.below(PLACES as u64 - 1) as usize) % PLACES;
-        atoms.push((p, q, value[p] - value[q] + dice.below(100_000) as i64));
-    }
-    if !possible {
-        let a = dice.below(count as u64) as usize;
-        let b = (a + 1 + dice.below(count as u64 - 1) as usize) % count;
-        let (p, q, c) = atoms[a];
-        atoms[b] = (q, p, -c - 1);
-    }
-    Set {
-        places: atoms.iter().flat_map(|&(p, q, _)| [p as u8, q as u8]).collect(),
-        bounds: atoms.iter().map(|&(_, _, c)| c as i32).collect(),
-    }
+    d
 }
 
 /// Nanoseconds for a test, over all the sets.
@@ -113,20 +94,17 @@ fn time(sets: &[Set], test: fn(&Set) -> bool) -> f64 {
 }
 
 fn main() {
-    let mut dice = Dice(0x5c17_0001);
     let mut worst: f64 = 0.0;
-    println!("16 constants     atoms  ns ours  ns Floyd-Warshall  ratio");
-    for count in [40, 80, 160, 184] {
-        for possible in [true, false] {
-            let sets: Vec<Set> = (0..SETS).map(|_| set(&mut dice, count, possible)).collect();
-            for s in &sets {
-                assert_eq!(floyd_warshall(s), possible);
-                assert_eq!(ours(s), possible);
-            }
-            let (a, b) = (time(&sets, ours), time(&sets, floyd_warshall));
-            worst = worst.max(a / b);
-            println!("{:<15} {:>6} {:>8.0} {:>18.0} {:>6.2}", if possible { "possible" } else { "impossible" }, count, a, b, a / b);
+    println!("{CONSTANTS} constants     atoms  ns ours  ns Floyd-Warshall  ratio");
+    for Row { possible, count, sets } in sets::rows() {
+        for s in &sets {
+            assert_eq!(floyd_warshall(s), possible);
+            assert_eq!(ours(s), possible);
+            assert_eq!(our_numbers(s), their_numbers(s));
         }
+        let (a, b) = (time(&sets, ours), time(&sets, floyd_warshall));
+        worst = worst.max(a / b);
+        println!("{:<15} {:>6} {:>8.0} {:>18.0} {:>6.2}", if possible { "possible" } else { "impossible" }, count, a, b, a / b);
     }
     println!("largest ratio {worst:.2} (bar: 10)");
 }

@@ -13,6 +13,7 @@ use checker::generate::generate;
 use checker::listing::{listing, run};
 use compare::steps;
 use compare::steps::Near;
+use compare::timing::{enough, seconds, Spread};
 use drf::{judge, MOST_LISTING};
 use std::hint::black_box;
 use std::time::{Duration, Instant};
@@ -26,33 +27,6 @@ const ROUNDS: usize = 21;
 const ROUND: Duration = Duration::from_millis(80);
 /// The clock is read at most so often.
 const SAMPLE: Duration = Duration::from_micros(50);
-
-/// The median of some values, and the ends of their middle half
-struct Spread {
-    low: f64,
-    median: f64,
-    high: f64,
-}
-
-impl Spread {
-    fn of(values: impl IntoIterator<Item = f64>) -> Spread {
-        let mut sorted: Vec<f64> = values.into_iter().collect();
-        sorted.sort_by(f64::total_cmp);
-        let at = |quarter| sorted[(sorted.len() - 1) * quarter / 4];
-        Spread { low: at(1), median: at(2), high: at(3) }
-    }
-
-    /// The far end of the middle half, on either side of zero
-    fn far(&self) -> f64 {
-        self.low.abs().max(self.high.abs())
-    }
-}
-
-fn seconds(call: &mut dyn FnMut(), times: usize) -> f64 {
-    let start = Instant::now();
-    (0..times).for_each(|_| call());
-    start.elapsed().as_secs_f64() / times as f64
-}
 
 /// Ours on a file
 fn ours(file: &[u8]) -> impl FnMut() + '_ {
@@ -136,10 +110,7 @@ fn single_step(near: &Near) {
     for file in files {
         calls.push(Box::new(theirs(file)));
     }
-    let mut times = 1;
-    while seconds(&mut calls[0], times) * (times as f64) < SAMPLE.as_secs_f64() {
-        times *= 2;
-    }
+    let times = enough(&mut calls[0], SAMPLE);
     let rounds: Vec<Vec<f64>> = (0..ROUNDS).map(|_| round(&mut calls, times)).collect();
     let (a, b) = (Step::of(&rounds, 0, near.count), Step::of(&rounds, 3, near.count));
     let ratio = if a.is_told() && b.is_told() {

@@ -1,0 +1,195 @@
+//! Times the exported functions of this tree beside those of an earlier commit on the same inputs: the sets of bench/constraint, and the files of
+//! bench/files. `bench/since` links both into this program, with `before_` and `after_` put before their names.
+//!
+//! The two sides are timed in turn, many times over, and each turn begins with the other of them. Printed are the medians of the turns: what each
+//! side takes, and the ratio, with the middle half of the turns' ratios in brackets. Rows together are the sums of what each side takes. Before
+//! that it is seen that both sides answer the same.
+
+#[path = "../../../bench/sets.rs"]
+mod sets;
+
+use checker::generate::generate;
+use checker::listing::run;
+use compare::steps;
+use compare::timing::{enough, seconds, Spread};
+use drf::MOST_LISTING;
+use sets::{Row, Set, CONSTANTS};
+use std::hint::black_box;
+use std::time::{Duration, Instant};
+
+const FILES: u64 = 2_000;
+/// A row has at least so many turns, and takes at least so long.
+const TURNS: usize = 101;
+const EACH: Duration = Duration::from_millis(500);
+/// The clock is read at most so often.
+const SAMPLE: Duration = Duration::from_micros(200);
+
+// ---- both sides. A slice is handed over as its start and its length.
+
+macro_rules! tests {
+    ($library:literal $name:ident) => {
+        #[link(name = $library, kind = "static")]
+        extern "C" {
+            fn $name(
+                constants: u8,
+                count: u8,
+                places: *const u8,
+                places_len: usize,
+                bounds: *const i32,
+                bounds_len: usize,
+            ) -> u32;
+        }
+    };
+}
+
+macro_rules! tells {
+    ($library:literal $name:ident) => {
+        #[link(name = $library, kind = "static")]
+        extern "C" {
+            fn $name(
+                file: *const u8,
+                file_len: usize,
+                out: *mut u8,
+                out_len: usize,
+                ends: *mut u64,
+                ends_len: usize,
+            ) -> u64;
+        }
+    };
+}
+
+tests!("before_constraint_export" before_drf_possible);
+tests!("after_constraint_export" after_drf_possible);
+tells!("before_drf" before_drf_judge);
+tells!("after_drf" after_drf_judge);
+
+extern "C" {
+    fn after_drf_numbers(
+        constants: u8,
+        count: u8,
+        places: *const u8,
+        places_len: usize,
+        bounds: *const i32,
+        bounds_len: usize,
+        numbers: *mut i32,
+        numbers_len: usize,
+    ) -> u32;
+}
+
+type Tests = unsafe extern "C" fn(u8, u8, *const u8, usize, *const i32, usize) -> u32;
+type Tells = unsafe extern "C" fn(*const u8, usize, *mut u8, usize, *mut u64, usize) -> u64;
+
+/// What the test answers of a set
+fn answer(tests: Tests, Set { places, bounds }: &Set) -> u32 {
+    let (p, c) = (places.as_ptr(), bounds.as_ptr());
+    // SAFETY: each pointer is a slice's own, with its length beside it.
+    unsafe { tests(CONSTANTS as u8, bounds.len() as u8, p, places.len(), c, bounds.len()) }
+}
+
+/// The same, with the numbers behind a yes
+fn numbered(Set { places, bounds }: &Set) -> u32 {
+    let mut numbers = [0; CONSTANTS];
+    let (p, c, to) = (places.as_ptr(), bounds.as_ptr(), numbers.as_mut_ptr());
+    let (count, room) = (bounds.len(), numbers.len());
+    // SAFETY: as above
+    unsafe { after_drf_numbers(CONSTANTS as u8, count as u8, p, places.len(), c, count, to, room) }
+}
+
+/// What is told of a file, at the front of the buffer
+fn told<'a>(tells: Tells, file: &[u8], out: &'a mut [u8]) -> &'a [u8] {
+    let mut ends = [0; 2];
+    let (to, room) = (out.as_mut_ptr(), out.len());
+    // SAFETY: as above
+    let count = unsafe { tells(file.as_ptr(), file.len(), to, room, ends.as_mut_ptr(), 2) };
+    &out[..count as usize]
+}
+
+// ---- rows
+
+/// What each side takes for an input, in nanoseconds, and the ratio
+struct Took {
+    before: f64,
+    after: f64,
+    ratio: f64,
+}
+
+/// Prints a row: all inputs one after the other, by one side and by the other.
+fn row<T, A>(
+    name: &str,
+    inputs: &[T],
+    mut before: impl FnMut(&T) -> A,
+    mut after: impl FnMut(&T) -> A,
+) -> Took {
+    let sides: [&mut dyn FnMut(); 2] = [
+        &mut || inputs.iter().for_each(|input| _ = black_box(before(black_box(input)))),
+        &mut || inputs.iter().for_each(|input| _ = black_box(after(black_box(input)))),
+    ];
+    let times = enough(sides[0], SAMPLE);
+    let mut took = [Vec::new(), Vec::new()];
+    let start = Instant::now();
+    while took[0].len() < TURNS || start.elapsed() < EACH {
+        let first = took[0].len() % 2;
+        for side in [first, 1 - first] {
+            took[side].push(seconds(sides[side], times) * 1e9 / inputs.len() as f64);
+        }
+    }
+    let Spread { low, median: ratio, high } =
+        Spread::of(took[1].iter().zip(&took[0]).map(|(after, before)| after / before));
+    let [before, after] = took.map(|values| Spread::of(values).median);
+    println!("{name:<50} {before:>10.0} {after:>10.0} {ratio:>8.3} ({low:.3} to {high:.3})");
+    Took { before, after, ratio }
+}
+
+/// Prints what some rows come to together.
+fn together(name: &str, rows: &[Took]) {
+    let sum = |of: fn(&Took) -> f64| rows.iter().map(of).sum::<f64>();
+    let all = sum(|took| took.after) / sum(|took| took.before);
+    let mean = sum(|took| took.ratio) / rows.len() as f64;
+    println!("{name}: {} rows, together {all:.3}, mean of the ratios {mean:.3}\n", rows.len());
+}
+
+/// The test on each row of sets
+fn test_rows(after: impl Fn(&Set) -> u32) -> Vec<Took> {
+    let mut took = Vec::new();
+    for Row { possible, count, sets } in sets::rows() {
+        let before = |set: &Set| answer(before_drf_possible, set);
+        assert!(sets.iter().all(|set| before(set) == possible.into() && after(set) == before(set)));
+        let name = format!("{}, {count} atoms", if possible { "possible" } else { "impossible" });
+        took.push(row(&name, &sets, before, &after));
+    }
+    took
+}
+
+/// Judging of some files, one after the other
+fn judge_row(name: &str, files: &[Vec<u8>]) -> Took {
+    let (mut one, mut other) = (vec![0; MOST_LISTING], vec![0; MOST_LISTING]);
+    let mut before = |file: &Vec<u8>| told(before_drf_judge, file, &mut one).to_vec();
+    let mut after = |file: &Vec<u8>| told(after_drf_judge, file, &mut other).to_vec();
+    assert!(files.iter().all(|file| before(file) == after(file)), "{name}");
+    let before = |file: &Vec<u8>| told(before_drf_judge, file, &mut one).len();
+    let after = |file: &Vec<u8>| told(after_drf_judge, file, &mut other).len();
+    row(name, files, before, after)
+}
+
+fn judge_rows() -> Vec<Took> {
+    let (good, bad): (Vec<_>, Vec<_>) =
+        (1..=FILES).map(generate).partition(|file| run(file).is_ok());
+    let mut took = vec![judge_row("files with steps", &good), judge_row("bad files", &bad)];
+    took.extend(steps::all().into_iter().map(|near| judge_row(&near.name, &[near.with])));
+    took
+}
+
+/// Prints some rows, and what they come to together.
+fn part(name: &str, rows: impl FnOnce() -> Vec<Took>) -> Vec<Took> {
+    println!("{name:<50} {:>10} {:>10} {:>8}", "before ns", "after ns", "ratio");
+    let rows = rows();
+    together(name, &rows);
+    rows
+}
+
+fn main() {
+    part("constraint test, after with numbers told", || test_rows(numbered));
+    let mut all = part("constraint test", || test_rows(|set| answer(after_drf_possible, set)));
+    all.extend(part("files judged", judge_rows));
+    together("all rows of the last two parts", &all);
+}
