@@ -35,13 +35,21 @@ mostConstants = 16
 abbrev pub mostEntries : ℕ
 mostEntries = 160
 
--- The constraint test takes the atoms of a full trail and of a full clause: 160 + 24.
+-- "A Decide step ends with a count (at most 24) of atoms": as many as a clause may have, so that one record serves the atoms of either.
+abbrev pub mostBrought : ℕ
+mostBrought = 24
+
+-- The constraint test takes the atoms of a full trail, and those of a full clause or of a full decision: 160 + 24.
 abbrev pub mostTested : ℕ
 mostTested = 184
 
 -- "c is a signed 32-bit number from −1,000,000 to 1,000,000."
 abbrev pub mostC : ℕ
 mostC = 1000000
+
+-- "The denial of p − q ≤ c is q − p ≤ −c − 1, so trail constants, and the test's, reach −1,000,001."
+abbrev pub mostDenied : ℕ
+mostDenied = 1000001
 
 -- "Make the input clauses from up to 48 rows of key and result": of a lookup table. There is a clause for each row.
 abbrev pub mostRows : ℕ

@@ -1,4 +1,4 @@
--- The refusal numbers, each named once, with the words of the paper and, from 19 on, of the change requests.
+-- The refusal numbers, each named once, with the words of the paper and of the change requests.
 use Prim.Native.Nat.{ℕ}
 
 -- No refusal: accepted.
@@ -13,11 +13,11 @@ endsInside = 1
 abbrev pub wrongMark : ℕ
 wrongMark = 2
 
--- "a count or arity above its limit"
+-- "a count or arity above its limit"; "for the counts" of the atoms that a Decide brings
 abbrev pub aboveLimit : ℕ
 aboveLimit = 3
 
--- "a clause number, sign or constant c out of its range, or both places 0; a Decide sign above 1"
+-- "a clause number, sign or constant c out of its range, or both places 0; a Decide sign above 1"; "for its sign above 1", of an atom brought
 abbrev pub outOfRange : ℕ
 outOfRange = 4
 
@@ -41,11 +41,11 @@ surplus = 8
 abbrev pub wrongMoment : ℕ
 wrongMoment = 9
 
--- "no such clause, literal or constant; wrong instance count; Factorize of one literal twice; Grow by 0"
+-- "no such clause, literal or constant; wrong instance count; Factorize of one literal twice; Grow by 0"; "also for a bad atom number"
 abbrev pub noSuch : ℕ
 noSuch = 10
 
--- "literal already defined (1, 2)"
+-- "literal already defined (1, 2)"; "also when an atom so brought, or its denial, is on the trail or brought before it"
 abbrev pub alreadyDefined : ℕ
 alreadyDefined = 11
 
@@ -53,7 +53,7 @@ alreadyDefined = 11
 abbrev pub notFalse : ℕ
 notFalse = 12
 
--- "atoms not possible (1, 3)"
+-- "atoms not possible (1, 3)"; "now also for Decide"
 abbrev pub notPossible : ℕ
 notPossible = 13
 
@@ -88,3 +88,7 @@ notInOrder = 20
 -- "buffer too short"
 abbrev pub bufferShort : ℕ
 bufferShort = 21
+
+-- "a file above 65,536 bytes"
+abbrev pub tooLong : ℕ
+tooLong = 22

@@ -1,4 +1,8 @@
-// The limits and refusal numbers that code needs, each under the name that it has in specs/Limits.antt and specs/Refusals.antt.
+// The limits and refusal numbers that code needs, each under the name that it has in specs/Limits.antt and specs/Refusals.antt; the versions of the
+// run file and what depends on them; and the records that every crate shares.
+ghost use mathlib.Core.Path.{_≡_};
+ghost use Rattle.basis.specs.Versions.{formOf};
+
 pub const MOST_VARIABLES: usize = 12;
 
 pub const MOST_ATOMS: usize = 24;
@@ -19,9 +23,13 @@ pub const MOST_LEARNED: usize = 48;
 
 pub const MOST_CLAUSES: usize = 96;
 
+pub const MOST_BROUGHT: usize = 24;
+
 pub const MOST_TESTED: usize = 184;
 
 pub const MOST_C: i32 = 1000000;
+
+pub const MOST_DENIED: i32 = 1000001;
 
 pub const MOST_ROWS: usize = 48;
 
@@ -67,6 +75,19 @@ pub const NOT_IN_ORDER: u8 = 20;
 
 pub const BUFFER_SHORT: u8 = 21;
 
+pub const TOO_LONG: u8 = 22;
+
+// The version of a run file, or of a state that is made without one
+pub enum Version {
+    One,
+    Two,
+}
+
+// What depends on the version: whether decisions bring atoms.
+pub struct Form {
+    pub brings: bool,
+}
+
 // The atom record: a background atom p - q at most c, over places (a variable or a constant by its number; 0 is the number zero).
 pub struct Atom {
     pub p: u8,
@@ -87,4 +108,14 @@ pub struct Literal {
 pub struct Witness {
     pub given: bool,
     pub numbers: [i32; MOST_CONSTANTS],
+}
+
+// What depends on the version
+pub fn form_of(version: Version) -> Form
+    ensures { λ r. ⌜ r ≡ formOf version ⌝ }
+{
+    match version {
+        Version::One => Form { brings: false },
+        Version::Two => Form { brings: true },
+    }
 }
