@@ -42,7 +42,7 @@ pub record Checked (constants : ℕ) (atoms : List Atom) (numbers : List ℤ) : 
 abbrev pub NumbersChecked : Type 0
 NumbersChecked = (constants : ℕ) (atoms : List Atom) (numbers : List ℤ) → Placed constants atoms → NumbersOf constants atoms numbers → Checked constants atoms numbers
 
--- Where every c is from -b to b, b not 0, no number is further from 0 than b times the number of constants: 16,000,000 for 16 constants and c within a million.
+-- Where every c is from -b to b, b not 0, no number is further from 0 than b times the number of constants: 16,000,016 for 16 constants and c as the test takes it.
 abbrev pub NumbersWithin : Type 0
 NumbersWithin = (constants b : ℕ) (atoms : List Atom) (numbers : List ℤ) → 1 ≤ b → Placed constants atoms → ((a : Atom) → List·Memᴰ a atoms → Within b (a .c)) → NumbersOf constants atoms numbers
     → (k : ℕ) → k < constants → Within (constants * b) (getD numbers k (pos 0))

@@ -7,18 +7,18 @@ use native.Mathlib.Numerals.{add-one}
 use native.Mathlib.Omega.{arith}
 use Rattle.basis.specs.declared.Atom.{Atom}
 use Rattle.basis.specs.Refusals.{outOfRange}
-use Rattle.basis.specs.Atoms.{InRange, Proper}
+use Rattle.basis.specs.Atoms.{InTest, Proper}
 use Rattle.lists.specs.Tests.{Decides}
 use Rattle.constraint.specs.Test.{FewEnough, Accepted, Refusal, Says, atomAt}
 use Rattle.constraint.specs.Square.{FirstImproper, refusedFinding}
 use Rattle.constraint.specs.declared.Finding.{Finding}
 
 -- Where the places are right, the range decides.
-pub proper-by-range : (constants : ℕ) (a : Atom) (r : Bool) → a .p ≤ constants → a .q ≤ constants → 0 < a .p + a .q → Decides (InRange (a .c)) r → Decides (Proper constants a) r
+pub proper-by-range : (constants : ℕ) (a : Atom) (r : Bool) → a .p ≤ constants → a .q ≤ constants → 0 < a .p + a .q → Decides (InTest (a .c)) r → Decides (Proper InTest constants a) r
 proper-by-range constants a true p q s h = record { p-place = p; q-place = q; some-place = s; c-range = h }
 proper-by-range constants a false p q s h = λ f. h (f .c-range)
 
-pub improper-at : (constants count k : ℕ) (atoms : List Atom) → k < count → ((j : ℕ) → j < k → Proper constants (atomAt atoms j)) → ¬ Proper constants (atomAt atoms k) →
+pub improper-at : (constants count k : ℕ) (atoms : List Atom) → k < count → ((j : ℕ) → j < k → Proper InTest constants (atomAt atoms j)) → ¬ Proper InTest constants (atomAt atoms k) →
     FirstImproper constants count atoms (k + 1)
 improper-at constants count k atoms h f g = rw add-one (h, f, g)
 

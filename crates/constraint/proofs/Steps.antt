@@ -10,7 +10,7 @@ use lib.IntN.{ℤ, pos, _+ℤ_}
 use lib.Signed.{ltZ}
 use borrow.Author.Count.{below-more}
 use Rattle.basis.specs.declared.Atom.{Atom}
-use Rattle.basis.specs.Atoms.{noAtom, Proper}
+use Rattle.basis.specs.Atoms.{noAtom, InTest, Proper}
 use Rattle.lists.proofs.Members.{member-at}
 use Rattle.integers.specs.Sides.{Within}
 use Rattle.integers.proofs.Linear.{le→}
@@ -25,10 +25,10 @@ pub atoms-none : (constants : ℕ) (atoms : List Atom) (t : List (List ℤ)) →
 atoms-none constants atoms t S = stands-as S (λ v. (λ h. (h, λ j a. absurd (omega arith)), λ h. h .0))
 
 -- A proper atom is no blank one, so it stands in the list.
-in-list : (constants k : ℕ) (atoms : List Atom) → Proper constants (atomAt atoms k) → k < length atoms
-in-list constants k atoms h = elim (decLt k (length atoms)) [ yes e ↦ e | no e ↦ absurd (blank (subst (Proper constants) (List·getD-eq-default atoms noAtom (omega arith)) h)) ]
+in-list : (constants k : ℕ) (atoms : List Atom) → Proper InTest constants (atomAt atoms k) → k < length atoms
+in-list constants k atoms h = elim (decLt k (length atoms)) [ yes e ↦ e | no e ↦ absurd (blank (subst (Proper InTest constants) (List·getD-eq-default atoms noAtom (omega arith)) h)) ]
   where
-    blank : Proper constants noAtom → ⊥
+    blank : Proper InTest constants noAtom → ⊥
     blank p = omega (arith, p .some-place)
 
 module _ (constants count : ℕ) (atoms : List Atom) (A : Accepted constants count atoms) (k : ℕ) (hk : k < count) where

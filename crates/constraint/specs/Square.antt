@@ -12,7 +12,8 @@ use mir.Syntax.{w64}
 use mir.Val.{SFits}
 use Rattle.basis.specs.declared.Atom.{Atom}
 use Rattle.basis.specs.declared.Witness.{Witness}
-use Rattle.basis.specs.Atoms.{Possible, Proper}
+use Rattle.basis.specs.Atoms.{InTest, Possible, Proper}
+use Rattle.basis.specs.Limits.{mostDenied}
 use Rattle.basis.specs.Numbers.{whole}
 use Rattle.lists.specs.Tests.{Decides}
 use Rattle.integers.specs.Sides.{Within}
@@ -27,9 +28,9 @@ use Rattle.constraint.specs.Witnesses.{noNumbers}
 abbrev pub places : ℕ
 places = 17
 
--- The largest bound that may be put in: one beyond the limit of c, since p - q ≤ c fails exactly if q - p ≤ -c - 1 holds.
+-- The largest bound that may be put in: the test's c reaches −1,000,001.
 abbrev pub mostBound : ℕ
-mostBound = 1000001
+mostBound = mostDenied
 
 -- The bound that stands in place of none, 17,000,017: values can be drawn together until none lie further apart.
 abbrev pub far : ℕ
@@ -99,8 +100,8 @@ refusedFinding number place = record { answer = Refused number place; numbers = 
 
 -- 0 where the first `count` atoms are proper, and else the number of the first that is not.
 abbrev pub FirstImproper : ℕ → ℕ → List Atom → ℕ → Type 0
-FirstImproper constants count atoms zero = (j : ℕ) → j < count → Proper constants (atomAt atoms j)
-FirstImproper constants count atoms (suc k) = (k < count) × ((j : ℕ) → j < k → Proper constants (atomAt atoms j)) × ¬ Proper constants (atomAt atoms k)
+FirstImproper constants count atoms zero = (j : ℕ) → j < count → Proper InTest constants (atomAt atoms j)
+FirstImproper constants count atoms (suc k) = (k < count) × ((j : ℕ) → j < k → Proper InTest constants (atomAt atoms j)) × ¬ Proper InTest constants (atomAt atoms k)
 
 -- No sum of bounds overflows: each sum that the test forms, of a sound square and a bound put in, lies from -35,000,035 to 35,000,035,
 -- and 64 bits hold it. Every square of the test is sound. Proved in proofs/Sums.antt.

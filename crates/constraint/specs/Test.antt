@@ -8,7 +8,7 @@ use Rattle.basis.specs.declared.Atom.{Atom}
 use Rattle.basis.specs.Limits.{mostConstants, mostTested}
 use Rattle.basis.specs.Refusals.{aboveLimit, outOfRange}
 use Rattle.basis.specs.Numbers.{whole}
-use Rattle.basis.specs.Atoms.{noAtom, Proper, Possible}
+use Rattle.basis.specs.Atoms.{noAtom, InTest, Proper, Possible}
 use Rattle.basis.specs.Choices.{NumbersOf}
 use Rattle.constraint.specs.declared.Answer.{Answer}
 use Rattle.constraint.specs.declared.Answer.the-variants.{Yes, No, Refused}
@@ -24,16 +24,16 @@ pub record FewEnough (constants count : ℕ) : Type 0 where
   pub few-constants : constants ≤ mostConstants
   pub few-atoms : count ≤ mostTested
 
--- .. each with places among the constants, not both 0, and c in range.
+-- .. each with places among the constants, not both 0, and c in range: "trail constants, and the test's, reach −1,000,001".
 pub record Accepted (constants count : ℕ) (atoms : List Atom) : Type 0 where
   pub few-enough : FewEnough constants count
-  pub proper : (k : ℕ) → k < count → Proper constants (atomAt atoms k)
+  pub proper : (k : ℕ) → k < count → Proper InTest constants (atomAt atoms k)
 
 -- "Handed more than 16 constants or 184 atoms it refuses by 3, place 0; then an atom with a place above the constants, both places 0 or
 -- c out of range by 4, the place being the atom's number": that of the first such atom.
 pub data Refusal (constants count : ℕ) (atoms : List Atom) : ℕ → ℕ → Type 0 where
   too-many : ¬ FewEnough constants count → Refusal constants count atoms aboveLimit 0
-  improper : (k : ℕ) → FewEnough constants count → k < count → ((j : ℕ) → j < k → Proper constants (atomAt atoms j)) → ¬ Proper constants (atomAt atoms k)
+  improper : (k : ℕ) → FewEnough constants count → k < count → ((j : ℕ) → j < k → Proper InTest constants (atomAt atoms j)) → ¬ Proper InTest constants (atomAt atoms k)
       → Refusal constants count atoms outOfRange (suc k)
 
 -- The array holds the numbers behind a yes, and 0 past them.

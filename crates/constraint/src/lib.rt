@@ -6,7 +6,7 @@ ghost use lib.ListN.{take};
 ghost use lib.IntN.{pos, _+ℤ_, _-ℤ_};
 ghost use lib.Signed.{ltZ};
 ghost use Rattle.basis.specs.Limits.{mostConstants, mostTested};
-ghost use Rattle.basis.specs.Atoms.{InRange, Proper};
+ghost use Rattle.basis.specs.Atoms.{InTest, Proper};
 ghost use Rattle.basis.specs.Choices.{lessZero};
 ghost use Rattle.lists.specs.Tests.{Decides};
 ghost use Rattle.integers.specs.Sides.{Within};
@@ -19,6 +19,7 @@ use basis::ABOVE_LIMIT;
 use basis::Atom;
 use basis::MOST_C;
 use basis::MOST_CONSTANTS;
+use basis::MOST_DENIED;
 use basis::MOST_TESTED;
 use basis::OUT_OF_RANGE;
 use basis::Witness;
@@ -234,11 +235,11 @@ fn kept(constants: usize, count: usize, atoms: [Atom; MOST_TESTED]) -> Witness
     }
 }
 
-// Whether c is from -1,000,000 to 1,000,000.
-pub fn in_range(c: i32) -> bool
-    ensures { λ r. ⌜ Decides (InRange c) r ⌝ }
+// Whether c is from -1,000,001 to 1,000,000.
+fn in_test(c: i32) -> bool
+    ensures { λ r. ⌜ Decides (InTest c) r ⌝ }
 {
-    if c < -MOST_C {
+    if c < -MOST_DENIED {
         return false;
     }
     if MOST_C < c {
@@ -249,7 +250,7 @@ pub fn in_range(c: i32) -> bool
 
 // Whether the atom has its places among the constants, not both 0, and c in range.
 fn proper(constants: usize, a: Atom) -> bool
-    ensures { λ r. ⌜ Decides (Proper constants a) r ⌝ }
+    ensures { λ r. ⌜ Decides (Proper InTest constants a) r ⌝ }
 {
     let p = a.p as usize;
     let q = a.q as usize;
@@ -262,7 +263,7 @@ fn proper(constants: usize, a: Atom) -> bool
     if p + q == 0 {
         return false;
     }
-    in_range(a.c)
+    in_test(a.c)
 }
 
 // The number of the first atom that is not proper, from 1; or 0.

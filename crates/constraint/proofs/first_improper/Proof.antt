@@ -6,7 +6,7 @@ use borrow.Author.Needs.{needs}
 use borrow.Author.Tests.{not-true, not-false}
 use borrow.Author.Count.{below-more}
 use Rattle.basis.specs.Limits.{mostTested}
-use Rattle.basis.specs.Atoms.{Proper}
+use Rattle.basis.specs.Atoms.{InTest, Proper}
 use Rattle.lists.specs.Tests.{Decides}
 use Rattle.constraint.specs.Test.{atomAt}
 use Rattle.constraint.proofs.Refusals.{improper-at}
@@ -16,7 +16,7 @@ use Rattle.constraint.proofs.first_improper.Tie as tie
 -- The atoms passed are proper; the first that is not is the answer.
 
 abbrev Inv-loop : tie.InvT-loop
-Inv-loop constants count atoms k₀ k = (k ≤ count) × (count ≤ mostTested) × ((j : ℕ) → j < k → Proper constants (atomAt atoms j))
+Inv-loop constants count atoms k₀ k = (k ≤ count) × (count ≤ mostTested) × ((j : ℕ) → j < k → Proper InTest constants (atomAt atoms j))
 
 abbrev μ-loop : tie.MeasureT-loop
 μ-loop constants count atoms k₀ k = count - k

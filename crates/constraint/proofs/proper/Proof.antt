@@ -5,7 +5,7 @@ use lib.IntN.{ℤ}
 use mir.Syntax.{w32}
 use mir.Facts.{toZ-ofZ}
 use borrow.Author.Needs.{needs, sfits-of}
-use Rattle.basis.specs.Atoms.{InRange}
+use Rattle.basis.specs.Atoms.{InTest}
 use Rattle.lists.specs.Tests.{Decides}
 use Rattle.constraint.proofs.Refusals.{proper-by-range}
 use Rattle.constraint.proofs.proper.Statement.{statement}
@@ -14,8 +14,8 @@ use Rattle.constraint.proofs.proper.Tie as tie
 -- Each return but the last shows one fault; the last leaves the range to decide.
 
 returns-4 : tie.Need-returns-4
-returns-4 c = proper-by-range _ (c .before .before .before .before .before .before .before .args .a) (c .in-range .result) (search needs) (search needs) (omega arith)
-    (subst (λ (x : ℤ). Decides (InRange x) (c .in-range .result)) (toZ-ofZ {w = w32} (sfits-of (c .before .struct-told .given .1 .1 .0 .1))) (c .in-range .ensures))
+returns-4 c = proper-by-range _ (c .before .before .before .before .before .before .before .args .a) (c .in-test .result) (search needs) (search needs) (omega arith)
+    (subst (λ (x : ℤ). Decides (InTest x) (c .in-test .result)) (toZ-ofZ {w = w32} (sfits-of (c .before .struct-told .given .1 .1 .0 .1))) (c .in-test .ensures))
 
 pub proper-spec : {M : Type 1} → statement M
 proper-spec =
