@@ -36,7 +36,7 @@ in-range-says c = (
   λ h. and-i (leZ (negℤ (pos mostC)) c) (leZ c (pos mostC)) (h .low .le) (h .high .le),
 )
 
-proper-says : (v : ℕ) (a : Atom) → T (properAtom v a) ↔ Proper v a
+proper-says : (v : ℕ) (a : Atom) → T (properAtom v a) ↔ Proper InRange v a
 proper-says v a =
     says-also
     (and-says (leb (a .p) v) _ (leb-says (a .p) v) (and-says (leb (a .q) v) _ (leb-says (a .q) v) (and-says (leb 1 (a .p + a .q)) _ (leb-says 1 (a .p + a .q)) (in-range-says (a .c)))))
@@ -123,7 +123,7 @@ differences-say az = says-also (all-says test Asked each az) (λ h a m np nq. ou
 fields-say : (arities : List ℕ) (C : Clause) → T (allOf (properAtom (C .variables)) (C .atoms) && allOf (properLiteral arities (C .variables)) (C .literals)) ↔ FieldsInRange arities C
 fields-say arities C =
     says-also
-    (and-says (allOf (properAtom (C .variables)) (C .atoms)) _ (all-says (properAtom (C .variables)) (Proper (C .variables)) (proper-says (C .variables)) (C .atoms))
+    (and-says (allOf (properAtom (C .variables)) (C .atoms)) _ (all-says (properAtom (C .variables)) (Proper InRange (C .variables)) (proper-says (C .variables)) (C .atoms))
     (all-says (properLiteral arities (C .variables)) (ProperLiteral arities (C .variables)) (proper-literal-says arities (C .variables)) (C .literals)))
     (λ h. record { atoms-proper = h .0; literals-proper = h .1 }) (λ h. (h .atoms-proper, h .literals-proper))
 
@@ -212,7 +212,7 @@ admission-refused-rightly constants arities cs = go (said (countsFit constants a
     judged f (first-bad j l e b h) =
         let q : (1 + j) - 1 ≡ j = omega arith in
         bad-clause (1 + j) (rw q e) f (record { from-one = omega arith; there = omega arith }) (rw q b) (λ i a u. h (i - 1) (omega arith))
-    judged f (all-fine e h) = admitted e (record {
+    judged f (all-fine e h) = admitted e (λ version. record {
       few-constants = f .few-constants;
       few-predicates = f .few-predicates;
       small-arities = f .small-arities;
@@ -227,17 +227,17 @@ admission-refused-rightly constants arities cs = go (said (countsFit constants a
     go (fails t) f = rw (F→eq (countsFit constants arities cs) t) (counts refl (not-says (countsFit constants arities cs) (counts-say constants arities cs) .0 t))
 
 pub admitted-exactly : AdmittedExactly
-admitted-exactly constants arities cs = (λ e. out e (admission-refused-rightly constants arities cs), λ h. back h (admission-refused-rightly constants arities cs))
+admitted-exactly version constants arities cs = (λ e. out e (admission-refused-rightly constants arities cs), λ h. back h (admission-refused-rightly constants arities cs))
   where
     r : Refused
     r = admissionRefusal constants arities cs
 
-    out : r .number ≡ accepted → AdmissionJudged constants arities cs r → Admitted (fresh constants arities cs)
+    out : r .number ≡ accepted → AdmissionJudged constants arities cs r → Admitted (fresh version constants arities cs)
     out e (counts z f) = let k = ap (λ (q : Refused). q .number) z in absurd (omega arith)
     out e (bad-clause k z f m b h) = absurd (b (sym (ap (λ (q : Refused). q .number) z) ∙ e))
-    out e (admitted z a) = a
+    out e (admitted z a) = a version
 
-    back : Admitted (fresh constants arities cs) → AdmissionJudged constants arities cs r → r .number ≡ accepted
+    back : Admitted (fresh version constants arities cs) → AdmissionJudged constants arities cs r → r .number ≡ accepted
     back a (counts z f) = absurd (f (record { few-constants = a .few-constants; few-predicates = a .few-predicates; small-arities = a .small-arities; few-clauses = a .few-clauses }))
     back a (bad-clause k z f m b h) =
         let i : List·Memᴰ (clauseAt cs k) cs = getD-mem cs (k - 1) noClause (omega arith) in

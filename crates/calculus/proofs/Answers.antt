@@ -34,7 +34,7 @@ use Rattle.calculus.proofs.OnTrail.{not-on-out, on-out, other-false-out
 
 pub all-rise : (N : Numbers) → TriedInRisingOrder N
 all-rise N s (Propagate c l τ) = tt
-all-rise N s (Decide c l g τ) = tt
+all-rise N s (Decide c l g τ zs) = tt
 all-rise N s (Conflict c τ) = tt
 all-rise N s (Resolve l) = tt
 all-rise N s (Factorize i j) = tt
@@ -49,7 +49,7 @@ inTable (c ∷ cs) = leb (c .refusal) noRoom && inTable cs
 
 all-in-table : (N : Numbers) (s : State) (x : Step) → T (inTable (conditions N s x))
 all-in-table N s (Propagate c l τ) = tt
-all-in-table N s (Decide c l g τ) = tt
+all-in-table N s (Decide c l g τ zs) = tt
 all-in-table N s (Conflict c τ) = tt
 all-in-table N s (Resolve l) = tt
 all-in-table N s (Factorize i j) = tt
@@ -154,7 +154,7 @@ not-false-once t τ MustBe ls p q a b =
 
 named-once : (s : State) (x : Step) (p q : ℕ) → NamesNotFalse s x p → NamesNotFalse s x q → p ≡ q
 named-once s (Propagate c l τ) p q a b = not-false-once (s .trail) τ _ (clauseAt (clauses s) c .literals) p q a b
-named-once s (Decide c l g τ) p q a b = absurd a
+named-once s (Decide c l g τ zs) p q a b = absurd a
 named-once s (Conflict c τ) p q a b = not-false-once (s .trail) τ _ (clauseAt (clauses s) c .literals) p q a b
 named-once s (Resolve l) p q a b = absurd a
 named-once s (Factorize i j) p q a b = absurd a
@@ -195,7 +195,7 @@ module _ (N : Numbers) where
           first-not-false (s .trail) τ (λ m. ¬ (ground τ m ≡ g)) (λ m. sameLiteral (ground τ m) g || isFalse (s .trail) (ground τ m))
           (λ m k. other-not-false (s .trail) (ground τ m) g k) (λ m k ne. other-false-out (s .trail) (ground τ m) g k ne) (C .literals)
           (or-false (not (othersFalse (s .trail) τ g (C .literals))) h)
-      named (Decide c l g τ) h = absurd h
+      named (Decide c l g τ zs) h = absurd h
       named (Conflict c τ) h =
           let C = clauseAt (clauses s) c in
           first-not-false (s .trail) τ (λ m. Unit {0}) (λ m. isFalse (s .trail) (ground τ m))
@@ -220,7 +220,7 @@ module _ (N : Numbers) where
   -- An allowed step's atoms are possible, or it asks for none.
   pub asked-possible : (s : State) (x : Step) → Allowed N s x → Possible N (s .constants) (question s x)
   asked-possible s (Propagate c l τ) h = h .1 .1 .1 .1 .1 .0
-  asked-possible s (Decide c l g τ) h = possible-none N (s .constants)
+  asked-possible s (Decide c l g τ zs) h = h .1 .1 .1 .1 .1 .0
   asked-possible s (Conflict c τ) h = h .1 .1 .1 .1 .0
   asked-possible s (Resolve l) h = possible-none N (s .constants)
   asked-possible s (Factorize i j) h = possible-none N (s .constants)

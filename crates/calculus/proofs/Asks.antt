@@ -1,32 +1,33 @@
 -- Each check of Computed.antt says its condition of specs/Conditions.antt, so the first check that fails is the first condition that does not hold.
-use mathlib.Core.Path.{_∙_, _≡_, ap, refl}
+use mathlib.Core.Path.{_∙_, _≡_, ap, refl, subst}
 use mathlib.Core.Logic.{_↔_, _⊎_, inl, inr}
-use mathlib.Core.List.{List, List·Memᴰ, Memᴰ·cast, [], _∷_}
+use mathlib.Core.List.{List, List·Memᴰ, Memᴰ·cast, [], _++_, _∷_}
 use mathlib.Core.Option.{Option, none, some}
-use mathlib.Core.Bool.{Bool, _||_, cond, false, not, true}
+use mathlib.Core.Bool.{Bool, _&&_, _||_, cond, false, not, true}
 use Prim.Native.Nat.{_+_, _-_, _≤_, suc, ℕ}
 use native.Mathlib.Omega.{arith}
 use lib.Dec.{T, eqb, leb}
 use lib.ListN.{length}
-use Rattle.basis.specs.Atoms.{Possible}
-use Rattle.basis.specs.Limits.{mostAtoms, mostConstants, mostEntries, mostLearned, mostLiterals, mostVariables}
+use Rattle.basis.specs.Atoms.{Possible, denial}
+use Rattle.basis.specs.Limits.{mostAtoms, mostBrought, mostConstants, mostEntries, mostLearned, mostLiterals, mostVariables}
 use Rattle.basis.specs.Numbers.{Numbers}
 use Rattle.basis.specs.Refusals.{accepted}
+use Rattle.basis.specs.declared.Atom.{Atom}
 use Rattle.basis.specs.declared.Literal.{Literal}
 use Rattle.lists.proofs.Meanings.{_&_, all-says, and-says, any-says, eqb-says, leb-says, ltb-says, not-says, or-says, says-also}
 use Rattle.lists.proofs.Tests.{T→eq}
 use Rattle.lists.specs.Lists.{allOf, anyOf}
 use Rattle.calculus.specs.Checks.{Check, _or_, between, firstRefusal}
 use Rattle.calculus.specs.Class.{Limited, withinLimits}
-use Rattle.calculus.specs.Clauses.{Clause, Instanced, complement, ground, sameLiteral}
-use Rattle.calculus.specs.Tests.{allFalse, clauseExists, complementInConflict, instanceFits, lastIsPropagated, literalExists, nonempty, othersFalse}
+use Rattle.calculus.specs.Clauses.{Clause, Instanced, complement, ground, sameAtom, sameLiteral}
+use Rattle.calculus.specs.Tests.{allFalse, atomsUndefined, clauseExists, complementInConflict, instanceFits, lastIsPropagated, literalExists, nonempty, othersFalse, sourceFits}
 use Rattle.calculus.proofs.Computed.{asks}
-use Rattle.calculus.specs.Conditions.{ComplementNotIn, Condition, EachHolds, FirstLacking, InstanceOf, LastPropagated, Names, _otherwise_, conditions, literalAt}
+use Rattle.calculus.specs.Conditions.{AtomsUndefined, ComplementNotIn, Condition, EachHolds, FirstLacking, InstanceOf, LastPropagated, Names, NamesAtom, _otherwise_, conditions, literalAt}
 use Rattle.calculus.specs.OnTrail.{False, On, Undefined}
-use Rattle.calculus.specs.Rules.{backLevel, decidedLiteral, isOne, lastLiteral, literalInstance, next, otherInstances, question}
+use Rattle.calculus.specs.Rules.{backLevel, broughtAt, decidedLiteral, isOne, lastLiteral, literalInstance, next, otherInstances, question, sourceAtoms}
 use Rattle.calculus.specs.States.{Backtrack, Conflict, Decide, Factorize, Grow, Propagate, Resolve, Skip, State, Step, Unknown, clauseAt, clauses, conflictOf, stands}
-use Rattle.calculus.specs.Trails.{Trail, background, decided, foreground, isFalse, levelOf, onTrail, propagated, undefined}
-use Rattle.calculus.proofs.Merged.{sameLiteral→eq}
+use Rattle.calculus.specs.Trails.{Source, Trail, atomsOf, background, decided, foreground, isFalse, levelOf, onTrail, propagated, undefined}
+use Rattle.calculus.proofs.Merged.{sameAtom-refl, sameAtom→eq, sameLiteral→eq}
 use Rattle.calculus.proofs.OnTrail.{on-in, on-out, other-false-in, other-false-out, same-literal}
 
 -- Check by check, the same number and the same meaning
@@ -107,8 +108,8 @@ limited-says C =
 last-says : (t : Trail) → T (lastIsPropagated t) ↔ LastPropagated t (lastLiteral t)
 last-says [] = (λ h. absurd h, λ h. let e = h .is in let z : _≡_ {A = ℕ} 0 1 = cc in absurd (omega arith))
 last-says (foreground l (propagated c i τ) ∷ t) = (λ h. record { clause = c; literal = i; instance = τ; earlier = t; is = refl }, λ h. tt)
-last-says (foreground l (decided c i b τ) ∷ t) = (λ h. absurd h, λ h. let e = h .is in let z : _≡_ {A = ℕ} 0 1 = cc in absurd (omega arith))
-last-says (background a ∷ t) = (λ h. absurd h, λ h. let e = h .is in let z : _≡_ {A = ℕ} 0 1 = cc in absurd (omega arith))
+last-says (foreground l (decided c i b τ q) ∷ t) = (λ h. absurd h, λ h. let e = h .is in let z : _≡_ {A = ℕ} 0 1 = cc in absurd (omega arith))
+last-says (background a o ∷ t) = (λ h. absurd h, λ h. let e = h .is in let z : _≡_ {A = ℕ} 0 1 = cc in absurd (omega arith))
 
 nonempty-says : (t : Trail) → T (nonempty t) ↔ (¬ (t ≡ []))
 nonempty-says [] = (λ h. absurd h, λ h. absurd (h refl))
@@ -120,11 +121,36 @@ not-in-says K (foreground l o ∷ t) =
     let test : Literal → Bool = λ m. sameLiteral (complement l) (ground (K .instance) m) in
     let some-says = any-says test (λ m. complement l ≡ ground (K .instance) m) (λ m. same-says (complement l) (ground (K .instance) m)) (K .clause .literals) in
     says-also (not-says (anyOf test (K .clause .literals)) some-says) (λ h k o u e m i q. let w : l ≡ k = cc in h (m, i, ap complement w ∙ q)) (λ h (m, i, q). h l o t refl m i q)
-not-in-says K (background a ∷ t) = (λ h l o t e. let z : _≡_ {A = ℕ} 0 1 = cc in absurd (omega arith), λ h. tt)
+not-in-says K (background a o ∷ t) = (λ h l o t e. let z : _≡_ {A = ℕ} 0 1 = cc in absurd (omega arith), λ h. tt)
 
 not-again-says : (g : Literal) (D : List Literal) → T (not (anyOf (sameLiteral g) D)) ↔ (¬ List·Memᴰ g D)
 not-again-says g D =
     not-says (anyOf (sameLiteral g) D) (says-also (any-says (sameLiteral g) (λ m. g ≡ m) (same-says g) D) (λ (m, i, e). Memᴰ·cast e i) (λ i. (g, i, refl)))
+
+known-says : (a : Atom) (known : List Atom) → T (anyOf (sameAtom a) known) ↔ List·Memᴰ a known
+known-says a known =
+    says-also (any-says (sameAtom a) (λ b. a ≡ b) (λ b. (sameAtom→eq a b, λ e. subst (λ q. T (sameAtom a q)) e (sameAtom-refl a))) known) (λ (b, i, e). Memᴰ·cast e i) (λ i. (a, i, refl))
+
+pub atoms-undefined-says : (known az : List Atom) → T (atomsUndefined known az) ↔ AtomsUndefined known az
+atoms-undefined-says known [] = (λ u. tt, λ u. tt)
+atoms-undefined-says known (a ∷ az) =
+    says-also
+    (and-says (not (anyOf (sameAtom a) known || anyOf (sameAtom (denial a)) known)) _
+    (not-says (anyOf (sameAtom a) known || anyOf (sameAtom (denial a)) known) (or-says (anyOf (sameAtom a) known) _ (known-says a known) (known-says (denial a) known)))
+    (atoms-undefined-says (known ++ (a ∷ [])) az))
+    (λ h. (λ m. h .0 (inl m), (λ m. h .0 (inr m), h .1))) (λ h. (λ k. neither h k, h .1 .1))
+  where
+    neither : AtomsUndefined known (a ∷ az) → List·Memᴰ a known ⊎ List·Memᴰ (denial a) known → ⊥
+    neither h (inl m) = h .0 m
+    neither h (inr m) = h .1 .0 m
+
+source-says : (s : State) (z : Source) → T (sourceFits (clauses s) (s .constants) z) ↔ NamesAtom s z
+source-says s z =
+    let C = clauseAt (clauses s) (z .clause) in
+    says-also
+    (and-says (clauseExists (clauses s) (z .clause)) _ (names-says (clauses s) (z .clause))
+    (and-says (between 1 (length (C .atoms)) (z .number)) _ (names-says (C .atoms) (z .number)) (instance-says (s .constants) C (z .instance))))
+    (λ h. record { clause = h .0; atom = h .1 .0; instance = h .1 .1 }) (λ h. (h .clause, (h .atom, h .instance)))
 
 -- ---- the rules
 
@@ -141,14 +167,19 @@ matched N s b (Propagate c l τ) d =
     also d
     also leb-says (length (next s (Propagate c l τ) .trail)) mostEntries
     also all
-matched N s b (Decide c l g τ) d =
+matched N s b (Decide c l g τ offered) d =
     let C = clauseAt (clauses s) c in
-    leb-says (length τ) mostVariables
-    also leb-says g 1
+    let zs = broughtAt s offered in
+    and-says (leb (length τ) mostVariables) _ (leb-says (length τ) mostVariables)
+    (and-says (leb (length zs) mostBrought) _ (leb-says (length zs) mostBrought) (all-says (λ z. leb (length (z .instance)) mostVariables) (λ z. length (z .instance) ≤ mostVariables) (λ z. leb-says (length (z .instance)) mostVariables) zs))
+    also and-says (leb g 1) _ (leb-says g 1) (all-says (λ z. leb (z .sign) 1) (λ z. z .sign ≤ 1) (λ z. leb-says (z .sign) 1) zs)
     also none-says (s .conflict)
-    also and-says (clauseExists (clauses s) c) _ (names-says (clauses s) c) (and-says (literalExists C l) _ (names-says (C .literals) l) (instance-says (s .constants) C τ))
-    also undefined-says (s .trail) (decidedLiteral C (l - 1) (isOne g) τ)
-    also leb-says (suc (length (s .trail))) mostEntries
+    also and-says (clauseExists (clauses s) c && (literalExists C l && instanceFits (s .constants) C τ)) _
+    (and-says (clauseExists (clauses s) c) _ (names-says (clauses s) c) (and-says (literalExists C l) _ (names-says (C .literals) l) (instance-says (s .constants) C τ)))
+    (all-says (sourceFits (clauses s) (s .constants)) (NamesAtom s) (source-says s) zs)
+    also and-says (undefined (s .trail) (decidedLiteral C (l - 1) (isOne g) τ)) _ (undefined-says (s .trail) (decidedLiteral C (l - 1) (isOne g) τ)) (atoms-undefined-says (atomsOf (s .trail)) (sourceAtoms (clauses s) zs))
+    also d
+    also leb-says (length (next s (Decide c l g τ offered) .trail)) mostEntries
     also all
 matched N s b (Conflict c τ) d =
     let C = clauseAt (clauses s) c in

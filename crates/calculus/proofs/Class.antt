@@ -7,7 +7,7 @@ use Prim.Native.Nat.{_+_, _<_, _≤_, max, min, suc, zero, ℕ}
 use native.Mathlib.Omega.{arith}
 use lib.Dec.{T, eqb, eqb-refl, eqb·suc-zero, eqb→eq, leb, leb→le}
 use lib.ListN.{drop, getD, length, length-map, take, take-append-drop}
-use Rattle.basis.specs.Atoms.{Proper}
+use Rattle.basis.specs.Atoms.{InRange, Proper}
 use Rattle.basis.specs.Limits.{mostAtoms, mostLiterals, mostVariables}
 use Rattle.basis.specs.declared.Atom.{Atom}
 use Rattle.basis.specs.declared.Literal.{Literal}
@@ -27,7 +27,7 @@ use Rattle.calculus.proofs.Truths.{Alike}
 -- ---- what has the class's shape: places in range, differences bounded. Not yet: that each variable occurs
 
 record Shaped (arities : List ℕ) (v : ℕ) (az : List Atom) (ls : List Literal) : Type 0 where
-  pub atoms : (a : Atom) → List·Memᴰ a az → Proper v a
+  pub atoms : (a : Atom) → List·Memᴰ a az → Proper InRange v a
   pub literals : (l : Literal) → List·Memᴰ l ls → ProperLiteral arities v l
   pub differences : DifferencesBounded az
 
@@ -118,7 +118,7 @@ module _ {arities : List ℕ} {v w : ℕ} {f : ℕ → ℕ} {az : List Atom} {ls
   place-in zero o h = (omega (arith, g .zero-stays), λ k. absurd (omega arith))
   place-in (suc x) o h = let r = g .stays-in (suc x) o (omega arith) h in (r .1, λ k. r .0)
 
-  renamed-proper : (a : Atom) → List·Memᴰ a az → Proper w (renameAtom f a)
+  renamed-proper : (a : Atom) → List·Memᴰ a az → Proper InRange w (renameAtom f a)
   renamed-proper a m =
       let h = s .atoms a m in
       let p = place-in (a .p) (occurs-p ls m) (h .p-place) in
@@ -151,7 +151,7 @@ module _ {arities : List ℕ} {v w : ℕ} {f : ℕ → ℕ} {az : List Atom} {ls
 
   renamed-shaped : Shaped arities w (map (renameAtom f) az) (map (renameLiteral f) ls)
   renamed-shaped = record {
-    atoms = λ a m. let (b, n, e) = Memᴰ·of-map (renameAtom f) az m in subst (Proper w) e (renamed-proper b n);
+    atoms = λ a m. let (b, n, e) = Memᴰ·of-map (renameAtom f) az m in subst (Proper InRange w) e (renamed-proper b n);
     literals = λ l m. let (b, n, e) = Memᴰ·of-map (renameLiteral f) ls m in subst (ProperLiteral arities w) e (renamed-literal b n);
     differences = differences-map f (g .zero-stays) az (s .differences);
   }
@@ -169,7 +169,7 @@ shaped-append {arities} {v} {az} {bz} {ls} {ms} s u = record {
   differences = differences-append az bz (s .differences) (u .differences);
 }
   where
-    p : (a : Atom) → List·Memᴰ a az ⊎ List·Memᴰ a bz → Proper v a
+    p : (a : Atom) → List·Memᴰ a az ⊎ List·Memᴰ a bz → Proper InRange v a
     p a (inl m) = s .atoms a m
     p a (inr m) = u .atoms a m
 

@@ -7,14 +7,14 @@ use lib.Dec.{eqb, leb, ltb}
 use lib.ListN.{length, getD}
 use Rattle.basis.specs.Limits.{mostVariables, mostLearned, mostConstants, mostEntries}
 use Rattle.basis.specs.Refusals.{accepted, aboveLimit, outOfRange, unknownRule, wrongMoment, noSuch, alreadyDefined, notFalse, notPossible, noEntry, wrongLiteral, notAbove, keptNotPossible, noRoom}
-use Rattle.lists.specs.Lists.{anyOf}
+use Rattle.lists.specs.Lists.{allOf, anyOf}
 use Rattle.calculus.specs.Checks.{Check, _or_, firstRefusal}
 use Rattle.calculus.specs.Class.{withinLimits}
 use Rattle.calculus.specs.Clauses.{noLiteral, sameLiteral, ground, complement}
-use Rattle.calculus.specs.Rules.{Answer, backLevel, decidedLiteral, isOne, lastLiteral, literalInstance, next, otherInstances}
+use Rattle.calculus.specs.Rules.{Answer, backLevel, broughtAt, decidedLiteral, isOne, lastLiteral, literalInstance, next, otherInstances, sourceAtoms}
 use Rattle.calculus.specs.States.{State, Step, Propagate, Decide, Conflict, Resolve, Factorize, Skip, Backtrack, Grow, Unknown, clauses, clauseAt, stands, conflictOf}
-use Rattle.calculus.specs.Tests.{allFalse, clauseExists, complementInConflict, firstFailing, instanceFits, lastIsPropagated, literalExists, nonempty, othersFalse}
-use Rattle.calculus.specs.Trails.{undefined, isFalse, levelOf}
+use Rattle.calculus.specs.Tests.{allFalse, atomsUndefined, clauseExists, complementInConflict, countsFew, firstFailing, instanceFits, lastIsPropagated, literalExists, nonempty, othersFalse, signsFit, sourceFits}
+use Rattle.calculus.specs.Trails.{atomsOf, undefined, isFalse, levelOf}
 
 -- What a step asks; `possible` tells whether its question's atoms are.
 abbrev pub asks : Bool → State → Step → List Check
@@ -28,14 +28,16 @@ asks possible s (Propagate c l τ) =
     othersFalse (s .trail) τ g (C .literals) or notFalse ∷
     possible or notPossible ∷
     leb (length (next s (Propagate c l τ) .trail)) mostEntries or noRoom ∷ []
-asks possible s (Decide c l g τ) =
+asks possible s (Decide c l g τ offered) =
     let C = clauseAt (clauses s) c in
-    leb (length τ) mostVariables or aboveLimit ∷
-    leb g 1 or outOfRange ∷
+    let zs = broughtAt s offered in
+    (leb (length τ) mostVariables && countsFew zs) or aboveLimit ∷
+    (leb g 1 && signsFit zs) or outOfRange ∷
     not (stands (s .conflict)) or wrongMoment ∷
-    (clauseExists (clauses s) c && (literalExists C l && instanceFits (s .constants) C τ)) or noSuch ∷
-    undefined (s .trail) (decidedLiteral C (l - 1) (isOne g) τ) or alreadyDefined ∷
-    leb (suc (length (s .trail))) mostEntries or noRoom ∷ []
+    ((clauseExists (clauses s) c && (literalExists C l && instanceFits (s .constants) C τ)) && allOf (sourceFits (clauses s) (s .constants)) zs) or noSuch ∷
+    (undefined (s .trail) (decidedLiteral C (l - 1) (isOne g) τ) && atomsUndefined (atomsOf (s .trail)) (sourceAtoms (clauses s) zs)) or alreadyDefined ∷
+    possible or notPossible ∷
+    leb (length (next s (Decide c l g τ offered) .trail)) mostEntries or noRoom ∷ []
 asks possible s (Conflict c τ) =
     let C = clauseAt (clauses s) c in
     leb (length τ) mostVariables or aboveLimit ∷
@@ -79,7 +81,7 @@ notFalsePlace s (Propagate c l τ) =
     let C = clauseAt (clauses s) c in
     let g = ground τ (getD (C .literals) (l - 1) noLiteral) in
     firstFailing (λ m. sameLiteral (ground τ m) g || isFalse (s .trail) (ground τ m)) (C .literals)
-notFalsePlace s (Decide c l g τ) = zero
+notFalsePlace s (Decide c l g τ zs) = zero
 notFalsePlace s (Conflict c τ) = firstFailing (λ m. isFalse (s .trail) (ground τ m)) (clauseAt (clauses s) c .literals)
 notFalsePlace s (Resolve l) = zero
 notFalsePlace s (Factorize i j) = zero

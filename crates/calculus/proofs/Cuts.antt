@@ -66,8 +66,8 @@ cut-just-before i (e ∷ t) = go (said (leb (decisions (e ∷ t)) i)) (cut-just-
   where
     decision : (e : Entry) → i < decisions (e ∷ t) → decisions t ≤ i → T (isDecision e) × (decisions t ≡ i)
     decision (foreground l (propagated c n τ)) h k = absurd (omega arith)
-    decision (foreground l (decided c n b τ)) h k = (tt, omega arith)
-    decision (background a) h k = absurd (omega arith)
+    decision (foreground l (decided c n b τ q)) h k = (tt, omega arith)
+    decision (background a o) h k = absurd (omega arith)
 
     more : i < decisions (e ∷ t) → (r : CutBefore i t (cut i t)) → CutBefore i (e ∷ t) (cut i t)
     more h r = record { gone = e ∷ r .gone; whole = ap (λ u. e ∷ u) (r .whole); at-most = r .at-most; just-before = inr (first (r .just-before)) }

@@ -3,7 +3,7 @@ use mathlib.Core.Path.{_∙_, _≡_, ap, refl, subst, sym}
 use mathlib.Core.Logic.{Lift, _⊎_, inl, inr}
 use mathlib.Core.List.{List, List·Memᴰ, List·Memᴰ·append-cases, List·Memᴰ·eq-of-singleton, List·Memᴰ·not-nil, Memᴰ·append-left, Memᴰ·append-right, Memᴰ·cast, Memᴰ·map, Memᴰ·of-map, [], _++_, _∷_, append-assoc, map}
 use mathlib.Core.Option.{Option, none, some}
-use mathlib.Core.Bool.{_&&_, _||_, not}
+use mathlib.Core.Bool.{Bool, _&&_, _||_, cond, false, not, true}
 use Prim.Native.Nat.{_-_, _<_, _≤_, max, min, suc, ℕ}
 use native.Mathlib.Omega.{arith}
 use lib.Dec.{T, T-not, eqb, eqb-refl, leb, leb→le, le→leb, ltb→lt}
@@ -16,26 +16,26 @@ use Rattle.basis.specs.declared.Literal.{Literal}
 use Rattle.lists.proofs.Denials.{not-or, not-or-in, or-second}
 use Rattle.lists.proofs.Members.{allOf-in, allOf-out, without-cases, without-out}
 use Rattle.lists.proofs.Tests.{Said, and-i, and-l, and-r, fails, holds, or-either, or-r, said}
-use Rattle.lists.specs.Lists.{without}
+use Rattle.lists.specs.Lists.{allOf, without}
 use Rattle.calculus.specs.Checks.{between}
 use Rattle.calculus.specs.Class.{InClass, Limited}
 use Rattle.calculus.specs.Clauses.{Clause, Instanced, complement, ground, groundAtoms, noLiteral, renameAtom, sameLiteral, under}
 use Rattle.calculus.specs.Merging.{factored, reason, resolvent}
-use Rattle.calculus.specs.Tests.{clauseExists, complementInConflict, instanceFits, lastIsPropagated, literalExists}
+use Rattle.calculus.specs.Tests.{atomsUndefined, clauseExists, complementInConflict, countsFew, instanceFits, lastIsPropagated, literalExists, signsFit, sourceFits}
 use Rattle.calculus.proofs.Computed.{asks}
-use Rattle.calculus.specs.Rules.{backLevel, decidedLiteral, isOne, lastLiteral, lastReason, levelAfterSkip, literalInstance, next, otherInstances, propagatedTrail}
+use Rattle.calculus.specs.Rules.{backLevel, bring, broughtAt, decidedLiteral, isOne, lastLiteral, lastReason, levelAfterSkip, literalInstance, next, otherInstances, propagatedTrail, sourceAtoms}
 use Rattle.calculus.specs.States.{Backtrack, Conflict, Decide, Factorize, Grow, Propagate, Resolve, Skip, State, Step, Unknown, clauseAt, clauses, conflictOf, stands}
-use Rattle.calculus.specs.Trails.{Entry, Origin, Trail, atomsOf, background, cut, decided, decisions, foreground, isDecision, isFalse, levelOf, onTrail, propagated, undefined}
+use Rattle.calculus.specs.Trails.{Entry, Origin, Source, Trail, atomsOf, background, cut, decided, decisions, foreground, isDecision, isFalse, levelOf, onTrail, propagated, undefined}
 use Rattle.calculus.specs.Truth.{Follows, Reading, True}
 use Rattle.calculus.proofs.Answers.{Accepted}
 use Rattle.calculus.proofs.Asks.{AllOk}
 use Rattle.calculus.proofs.Class.{factored-class, factored-limited, limited-of, placed, reason-class, reason-own-lt, resolvent-class}
 use Rattle.calculus.proofs.Derived.{factored-atoms, factored-literals, factored-sized, reason-atoms, reason-own, reason-rest, reason-sized, reason-within, resolvent-atoms, resolvent-literals, resolvent-sized}
 use Rattle.calculus.proofs.Instances.{Inside, Sized}
-use Rattle.calculus.proofs.Levels.{CutAt, Found, alike-complement, clause-held, clause-keep, clause-new, cut-at, cut-false, cut-inside, found, instance-sized, level-at-most, level-le, min-max, number-below, off-tail, ok-more, ok-new, sized-instance, skip-false, skip-lowers-level, snoc, tail-shorter, tail-trans}
+use Rattle.calculus.proofs.Levels.{CutAt, Found, alike-complement, bring-keep, clause-held, clause-keep, clause-new, cut-at, cut-false, cut-inside, found, instance-sized, level-at-most, level-le, min-max, number-below, off-tail, ok-more, ok-new, sized-instance, skip-false, skip-lowers-level, snoc, sources-keep, sources-more, tail-shorter, tail-trans}
 use Rattle.calculus.proofs.Merged.{sameLiteral-refl, sameLiteral→eq}
 use Rattle.calculus.proofs.OnTrail.{complement-twice}
-use Rattle.calculus.proofs.Trails.{Below, Built, DecOk, PropOk, StepOk, Tail, below, decisions-push, empty, group, grown, here, literalBy}
+use Rattle.calculus.proofs.Trails.{Below, Built, PropOk, StepOk, Tail, below, bringsAt, decisions-bring, decisions-push, empty, group, grown, here, literalBy}
 use Rattle.calculus.proofs.Truths.{alike, factored-true, reason-true, resolvent-true}
 
 -- What every clause held has: it is of the class, within the limits, and true wherever the clauses `from` are.
@@ -45,9 +45,9 @@ pub record Entailed (nums : Numbers) (arities : List ℕ) (from : List Clause) (
   pub follows : Follows nums arities from C
 
 -- A conflict N stands over the trail t: t is what is left of the trail t₀ that Conflict was accepted at.
-pub record Stands (nums : Numbers) (arities : List ℕ) (cs from : List Clause) (n : ℕ) (t : Trail) (N : Instanced) : Type 1 where
+pub record Stands (nums : Numbers) (brings : Bool) (arities : List ℕ) (cs from : List Clause) (n : ℕ) (t : Trail) (N : Instanced) : Type 1 where
   pub t₀ : Trail
-  pub built : Built nums cs n t₀
+  pub built : Built nums brings cs n t₀
   pub tail : Tail t t₀
   pub possible : Possible nums n (atomsOf t₀ ++ groundAtoms (N .instance) (N .clause .atoms))
   pub held : Entailed nums arities from (N .clause)
@@ -55,8 +55,8 @@ pub record Stands (nums : Numbers) (arities : List ℕ) (cs from : List Clause) 
   pub isfalse : (l : Literal) → List·Memᴰ l (map (ground (N .instance)) (N .clause .literals)) → T (isFalse t l)
 
 abbrev pub Now : Numbers → List Clause → State → Option Instanced → Type 1
-Now nums from s none = Lift {0, 1} (Built nums (clauses s) (s .constants) (s .trail))
-Now nums from s (some N) = Stands nums (s .arities) (clauses s) from (s .constants) (s .trail) N
+Now nums from s none = Lift {0, 1} (Built nums (bringsAt s) (clauses s) (s .constants) (s .trail))
+Now nums from s (some N) = Stands nums (bringsAt s) (s .arities) (clauses s) from (s .constants) (s .trail) N
 
 -- What every state reached from a start has, whose clauses were these
 pub record Inv (nums : Numbers) (from : List Clause) (s : State) : Type 1 where
@@ -72,17 +72,17 @@ pub possible-sub : {nums : Numbers} {n : ℕ} {az bz : List Atom} → ((a : Atom
 possible-sub {nums} h p = record { value = p .value; at-zero = p .at-zero; rising = p .rising; every = λ a m. p .every a (h a m) }
 
 -- A conflict without literals: no reading makes every clause of `from` true.
-pub refuted : {nums : Numbers} {arities : List ℕ} {cs from : List Clause} {n : ℕ} {t : Trail} (N : Instanced) → Stands nums arities cs from n t N → N .clause .literals ≡ []
+pub refuted : {nums : Numbers} {brings : Bool} {arities : List ℕ} {cs from : List Clause} {n : ℕ} {t : Trail} (N : Instanced) → Stands nums brings arities cs from n t N → N .clause .literals ≡ []
     → (I : Reading nums arities) → ((K : Clause) → List·Memᴰ K from → True nums arities I K) → ⊥
 refuted {nums} N st e I h = st .held .follows I h (λ x. st .possible .value (under (N .instance) x)) (st .possible .at-zero)
     (λ a m. st .possible .every (renameAtom (under (N .instance)) a) (Memᴰ·append-right (atomsOf (st .t₀)) (Memᴰ·map (renameAtom (under (N .instance))) m)))
     (λ l m. absurd (List·Memᴰ·not-nil (subst (List·Memᴰ l) e m)))
 
-free : {nums : Numbers} (from : List Clause) (s : State) (o : Option Instanced) → Now nums from s o → T (not (stands o)) → Built nums (clauses s) (s .constants) (s .trail)
+free : {nums : Numbers} (from : List Clause) (s : State) (o : Option Instanced) → Now nums from s o → T (not (stands o)) → Built nums (bringsAt s) (clauses s) (s .constants) (s .trail)
 free from s none w t = w .lower
 free from s (some N) w t = absurd t
 
-stood : {nums : Numbers} {from : List Clause} (s : State) (o : Option Instanced) → Now nums from s o → T (stands o) → Stands nums (s .arities) (clauses s) from (s .constants) (s .trail) (conflictOf o)
+stood : {nums : Numbers} {from : List Clause} (s : State) (o : Option Instanced) → Now nums from s o → T (stands o) → Stands nums (bringsAt s) (s .arities) (clauses s) from (s .constants) (s .trail) (conflictOf o)
 stood {nums} {from} s none w t = absurd t
 stood {nums} {from} s (some N) w t = w
 
@@ -92,7 +92,7 @@ propagate-keeps {nums} {from} s c l τ v a = record {
   held = v .held;
   level = v .level ∙ sym (decisions-push (groundAtoms τ (C .atoms)) (foreground (ground τ (getD (C .literals) (l - 1) noLiteral)) (propagated c l τ) ∷ s .trail));
   now = record {
-    lower = group (propagated c l τ) (free from s (s .conflict) (v .now) (k .1 .0)) (
+    lower = group (propagated c l τ) [] (free from s (s .conflict) (v .now) (k .1 .0)) (
       and-l (clauseExists (clauses s) c) (literalExists C l && instanceFits (s .constants) C τ) (k .1 .1 .0),
       record { short = k .0; named = and-r (clauseExists (clauses s) c) (literalExists C l && instanceFits (s .constants) C τ) (k .1 .1 .0); undefined-yet = k .1 .1 .1 .0; others = k .1 .1 .1 .1 .0; possible = a .decides .0 (k .1 .1 .1 .1 .1 .0); room = k .1 .1 .1 .1 .1 .1 .0 },
     ) refl;
@@ -105,14 +105,33 @@ propagate-keeps {nums} {from} s c l τ v a = record {
     k : AllOk (asks (a .possible) s (Propagate c l τ))
     k = a .checks
 
-decide-keeps : {nums : Numbers} {from : List Clause} (s : State) (c l g : ℕ) (τ : List ℕ) → Inv nums from s → Accepted nums s (Decide c l g τ) (next s (Decide c l g τ)) → Inv nums from (next s (Decide c l g τ))
-decide-keeps {nums} {from} s c l g τ v a = record {
+-- What stands among the atoms offered is what a decision brings, and of that, all.
+brought-again : (b : Bool) (zs : List Source) → cond b (cond b zs []) [] ≡ cond b zs []
+brought-again true zs = refl
+brought-again false zs = refl
+
+decide-keeps : {nums : Numbers} {from : List Clause} (s : State) (c l g : ℕ) (τ : List ℕ) (offered : List Source) → Inv nums from s → Accepted nums s (Decide c l g τ offered) (next s (Decide c l g τ offered)) → Inv nums from (next s (Decide c l g τ offered))
+decide-keeps {nums} {from} s c l g τ offered v a = record {
   held = v .held;
-  level = ap suc (v .level);
+  level = ap suc (v .level) ∙ sym (decisions-bring (clauses s) zs (foreground (decidedLiteral C (l - 1) (isOne g) τ) (decided c l (isOne g) τ (length zs)) ∷ s .trail));
   now = record {
-    lower = group (decided c l (isOne g) τ) (free from s (s .conflict) (v .now) (k .1 .1 .0)) (
-      and-l (clauseExists (clauses s) c) (literalExists C l && instanceFits (s .constants) C τ) (k .1 .1 .1 .0),
-      record { short = k .0; named = and-r (clauseExists (clauses s) c) (literalExists C l && instanceFits (s .constants) C τ) (k .1 .1 .1 .0); undefined-yet = k .1 .1 .1 .1 .0; room = k .1 .1 .1 .1 .1 .0 },
+    lower = group (decided c l (isOne g) τ (length zs)) zs (free from s (s .conflict) (v .now) (k .1 .1 .0)) (
+      and-l (clauseExists (clauses s) c) (literalExists C l && instanceFits (s .constants) C τ) named,
+      (
+        record {
+          short = and-l (leb (length τ) mostVariables) (countsFew zs) (k .0);
+          counts = and-r (leb (length τ) mostVariables) (countsFew zs) (k .0);
+          signs = and-r (leb g 1) (signsFit zs) (k .1 .0);
+          named = and-r (clauseExists (clauses s) c) (literalExists C l && instanceFits (s .constants) C τ) named;
+          sources = and-r (clauseExists (clauses s) c && (literalExists C l && instanceFits (s .constants) C τ)) (allOf (sourceFits (clauses s) (s .constants)) zs) (k .1 .1 .1 .0);
+          undefined-yet = and-l (undefined (s .trail) (decidedLiteral C (l - 1) (isOne g) τ)) (atomsUndefined (atomsOf (s .trail)) (sourceAtoms (clauses s) zs)) (k .1 .1 .1 .1 .0);
+          free = and-r (undefined (s .trail) (decidedLiteral C (l - 1) (isOne g) τ)) (atomsUndefined (atomsOf (s .trail)) (sourceAtoms (clauses s) zs)) (k .1 .1 .1 .1 .0);
+          possible = a .decides .0 (k .1 .1 .1 .1 .1 .0);
+          room = k .1 .1 .1 .1 .1 .1 .0;
+          may = brought-again (bringsAt s) offered;
+        },
+        refl,
+      ),
     ) refl;
   };
 }
@@ -120,8 +139,14 @@ decide-keeps {nums} {from} s c l g τ v a = record {
     C : Clause
     C = clauseAt (clauses s) c
 
-    k : AllOk (asks (a .possible) s (Decide c l g τ))
+    zs : List Source
+    zs = broughtAt s offered
+
+    k : AllOk (asks (a .possible) s (Decide c l g τ offered))
     k = a .checks
+
+    named : T (clauseExists (clauses s) c && (literalExists C l && instanceFits (s .constants) C τ))
+    named = and-l (clauseExists (clauses s) c && (literalExists C l && instanceFits (s .constants) C τ)) (allOf (sourceFits (clauses s) (s .constants)) zs) (k .1 .1 .1 .0)
 
 conflict-keeps : {nums : Numbers} {from : List Clause} (s : State) (c : ℕ) (τ : List ℕ) → Inv nums from s → Accepted nums s (Conflict c τ) (next s (Conflict c τ)) → Inv nums from (next s (Conflict c τ))
 conflict-keeps {nums} {from} s c τ v a = record {
@@ -160,8 +185,8 @@ skip-keeps {nums} {from} s v a = record { held = v .held; level = ap (levelAfter
     go none w h b = absurd h
     go (some N) w h b = record { t₀ = w .t₀; built = w .built; tail = tail-shorter (s .trail) (w .tail); possible = w .possible; held = w .held; sized = w .sized; isfalse = λ l m. skip-false N (s .trail) b l m (w .isfalse l m) }
 
-factorize-keeps-conflict : {nums : Numbers} {arities : List ℕ} {cs from : List Clause} {n : ℕ} {t : Trail} (N : Instanced) (i j : ℕ) → T (literalExists (N .clause) i && (literalExists (N .clause) j && not (eqb i j))) → T (sameLiteral (literalInstance N i) (literalInstance N j)) → Stands nums arities cs from n t N → Stands nums arities cs from n t (factored N (i - 1) (j - 1))
-factorize-keeps-conflict {nums} {arities} {cs} {from} {n} {t} N i j k e w = record {
+factorize-keeps-conflict : {nums : Numbers} {brings : Bool} {arities : List ℕ} {cs from : List Clause} {n : ℕ} {t : Trail} (N : Instanced) (i j : ℕ) → T (literalExists (N .clause) i && (literalExists (N .clause) j && not (eqb i j))) → T (sameLiteral (literalInstance N i) (literalInstance N j)) → Stands nums brings arities cs from n t N → Stands nums brings arities cs from n t (factored N (i - 1) (j - 1))
+factorize-keeps-conflict {nums} {brings} {arities} {cs} {from} {n} {t} N i j k e w = record {
   t₀ = w .t₀;
   built = w .built;
   tail = w .tail;
@@ -221,13 +246,13 @@ factorize-keeps {nums} {from} s i j v a = record { held = v .held; level = v .le
     k : AllOk (asks (a .possible) s (Factorize i j))
     k = a .checks
 
-resolve-keeps-conflict : {nums : Numbers} (arities : List ℕ) (cs from : List Clause) (n : ℕ) → ((C : Clause) → List·Memᴰ C cs → Entailed nums arities from C)
-    → (N : Instanced) (j : ℕ) (t : Trail) → T (literalExists (N .clause) j) → Limited (resolvent N (j - 1) (lastReason cs t .of) (lastReason cs t .own) .clause) → T (lastIsPropagated t) → T (sameLiteral (complement (lastLiteral t)) (literalInstance N j)) → Stands nums arities cs from n t N
-    → Stands nums arities cs from n t (resolvent N (j - 1) (lastReason cs t .of) (lastReason cs t .own))
-resolve-keeps-conflict {nums} arities cs from n helds N j [] okj few p e w = absurd p
-resolve-keeps-conflict {nums} arities cs from n helds N j (background a ∷ t) okj few p e w = absurd p
-resolve-keeps-conflict {nums} arities cs from n helds N j (foreground l (decided c i b τ) ∷ t) okj few p e w = absurd p
-resolve-keeps-conflict {nums} arities cs from n helds N j (foreground l (propagated c i τ) ∷ t) okj few p e w = record {
+resolve-keeps-conflict : {nums : Numbers} {brings : Bool} (arities : List ℕ) (cs from : List Clause) (n : ℕ) → ((C : Clause) → List·Memᴰ C cs → Entailed nums arities from C)
+    → (N : Instanced) (j : ℕ) (t : Trail) → T (literalExists (N .clause) j) → Limited (resolvent N (j - 1) (lastReason cs t .of) (lastReason cs t .own) .clause) → T (lastIsPropagated t) → T (sameLiteral (complement (lastLiteral t)) (literalInstance N j)) → Stands nums brings arities cs from n t N
+    → Stands nums brings arities cs from n t (resolvent N (j - 1) (lastReason cs t .of) (lastReason cs t .own))
+resolve-keeps-conflict {nums} {brings} arities cs from n helds N j [] okj few p e w = absurd p
+resolve-keeps-conflict {nums} {brings} arities cs from n helds N j (background a o ∷ t) okj few p e w = absurd p
+resolve-keeps-conflict {nums} {brings} arities cs from n helds N j (foreground l (decided c i b τ q) ∷ t) okj few p e w = absurd p
+resolve-keeps-conflict {nums} {brings} arities cs from n helds N j (foreground l (propagated c i τ) ∷ t) okj few p e w = record {
   t₀ = w .t₀;
   built = w .built;
   tail = w .tail;
@@ -244,8 +269,8 @@ resolve-keeps-conflict {nums} arities cs from n helds N j (foreground l (propaga
     C : Clause
     C = clauseAt cs c
 
-    B : Below nums cs n t l (propagated c i τ) (w .t₀)
-    B = below nums cs n (w .built) (w .tail)
+    B : Below nums brings cs n t l (propagated c i τ) (w .t₀)
+    B = below nums brings cs n (w .built) (w .tail)
 
     okc : T (clauseExists cs c)
     okc = B .ok .0
@@ -307,38 +332,59 @@ resolve-keeps {nums} {from} s j v a = record { held = v .held; level = v .level;
     k : AllOk (asks (a .possible) s (Resolve j))
     k = a .checks
 
-built-more : {nums : Numbers} (cs : List Clause) (D : Clause) (n : ℕ) {t : Trail} → Built nums cs n t → Built nums (snoc cs D) n t
-built-more {nums} cs D n (empty e) = empty e
-built-more {nums} cs D n {t} (group {t = u} m b k e) = go m k e (built-more cs D n b)
+built-more : {nums : Numbers} {brings : Bool} (cs : List Clause) (D : Clause) (n : ℕ) {t : Trail} → Built nums brings cs n t → Built nums brings (snoc cs D) n t
+built-more {nums} {brings} cs D n (empty e) = empty e
+built-more {nums} {brings} cs D n {t} (group {t = u} m zs b k e) = go m k e (built-more cs D n b)
   where
-    go : (m : Origin) → StepOk nums cs n u m → t ≡ grown cs m u → Built nums (snoc cs D) n u → Built nums (snoc cs D) n t
+    go : (m : Origin) → StepOk nums brings cs n u m zs → t ≡ grown cs m zs u → Built nums brings (snoc cs D) n u → Built nums brings (snoc cs D) n t
     go (propagated c l τ) k e b = let q = sym (clause-keep cs D c (k .0)) in
-        group (propagated c l τ) b (ok-more cs D c (k .0), subst (λ K. PropOk nums n u K c l τ) q (k .1)) (e ∙ ap (λ K. propagatedTrail K (l - 1) τ (propagated c l τ) u) q)
-    go (decided c l s τ) k e b = let q = sym (clause-keep cs D c (k .0)) in
-        group (decided c l s τ) b (ok-more cs D c (k .0), subst (λ K. DecOk n u K l s τ) q (k .1)) (e ∙ ap {B = Trail} (λ K. foreground (decidedLiteral K (l - 1) s τ) (decided c l s τ) ∷ u) q)
+        group (propagated c l τ) zs b (ok-more cs D c (k .0), subst (λ K. PropOk nums n u K c l τ) q (k .1)) (e ∙ ap (λ K. propagatedTrail K (l - 1) τ (propagated c l τ) u) q)
+    go (decided c l s τ j) (h, (k, i)) e b =
+        let q = sym (clause-keep cs D c h) in
+        let z = sym (sources-keep cs D n zs (k .sources)) in
+        let w : (j : ℕ) → grown cs (decided c l s τ j) zs u ≡ grown (snoc cs D) (decided c l s τ j) zs u =
+        λ j. ap {B = Trail} (λ K. bring cs zs (foreground (decidedLiteral K (l - 1) s τ) (decided c l s τ j) ∷ u)) q ∙ sym (bring-keep cs D n zs (k .sources) (foreground (literalBy (snoc cs D) (decided c l s τ j)) (decided c l s τ j) ∷ u)) in
+        group (decided c l s τ j) zs b (
+          ok-more cs D c h,
+          (
+            record {
+              short = k .short;
+              counts = k .counts;
+              signs = k .signs;
+              named = subst (λ K. T (literalExists K l && instanceFits n K τ)) q (k .named);
+              sources = sources-more cs D n zs (k .sources);
+              undefined-yet = subst (λ K. T (undefined u (decidedLiteral K (l - 1) s τ))) q (k .undefined-yet);
+              free = subst (λ az. T (atomsUndefined (atomsOf u) az)) z (k .free);
+              possible = subst (λ az. Possible nums n (atomsOf u ++ az)) z (k .possible);
+              room = subst (λ w. T (leb (length w) 160)) (w (length zs)) (k .room);
+              may = k .may;
+            },
+            i,
+          ),
+        ) (e ∙ w j)
 
-cut-built : {nums : Numbers} (cs : List Clause) (n : ℕ) {t₀ : Trail} (t : Trail) (i : ℕ) → Built nums cs n t₀ → Tail t t₀ → CutAt i t → Built nums cs n (cut i t)
-cut-built {nums} cs n {t₀} t i b h r = go (r .entry) (r .dec) (tail-trans (r .under) h)
+cut-built : {nums : Numbers} {brings : Bool} (cs : List Clause) (n : ℕ) {t₀ : Trail} (t : Trail) (i : ℕ) → Built nums brings cs n t₀ → Tail t t₀ → CutAt i t → Built nums brings cs n (cut i t)
+cut-built {nums} {brings} cs n {t₀} t i b h r = go (r .entry) (r .dec) (tail-trans (r .under) h)
   where
-    go : (e : Entry) → T (isDecision e) → Tail (e ∷ cut i t) t₀ → Built nums cs n (cut i t)
-    go (foreground l m) d k = below nums cs n b k .built
-    go (background a) d k = absurd d
+    go : (e : Entry) → T (isDecision e) → Tail (e ∷ cut i t) t₀ → Built nums brings cs n (cut i t)
+    go (foreground l m) d k = below nums brings cs n b k .built
+    go (background a o) d k = absurd d
 
-pub step-undefined : (nums : Numbers) (cs : List Clause) (n : ℕ) (t : Trail) (m : Origin) → StepOk nums cs n t m → T (undefined t (literalBy cs m))
-step-undefined nums cs n t (propagated c l τ) k = k .1 .undefined-yet
-step-undefined nums cs n t (decided c l b τ) k = k .1 .undefined-yet
+step-undefined : (nums : Numbers) (brings : Bool) (cs : List Clause) (n : ℕ) (t : Trail) (m : Origin) (zs : List Source) → StepOk nums brings cs n t m zs → T (undefined t (literalBy cs m))
+step-undefined nums brings cs n t (propagated c l τ) zs k = k .1 .undefined-yet
+step-undefined nums brings cs n t (decided c l b τ q) zs k = k .1 .0 .undefined-yet
 
-cut-undefined : {nums : Numbers} (cs : List Clause) (n : ℕ) {t₀ : Trail} (t : Trail) (i : ℕ) (k : Literal) → Built nums cs n t₀ → Tail t t₀ → i < levelOf k t → T (undefined (cut i t) k)
-cut-undefined {nums} cs n {t₀} t i k b h lt = go (said (sameLiteral k (F .lit)))
+cut-undefined : {nums : Numbers} {brings : Bool} (cs : List Clause) (n : ℕ) {t₀ : Trail} (t : Trail) (i : ℕ) (k : Literal) → Built nums brings cs n t₀ → Tail t t₀ → i < levelOf k t → T (undefined (cut i t) k)
+cut-undefined {nums} {brings} cs n {t₀} t i k b h lt = go (said (sameLiteral k (F .lit)))
   where
     F : Found k t
     F = found k t (omega arith)
 
-    B : Below nums cs n (F .rest) (F .lit) (F .made) t₀
-    B = below nums cs n b (tail-trans (F .at) h)
+    B : Below nums brings cs n (F .rest) (F .lit) (F .made) t₀
+    B = below nums brings cs n b (tail-trans (F .at) h)
 
     U : T (undefined (F .rest) (F .lit))
-    U = subst (λ q. T (undefined (F .rest) q)) (sym (B .lit)) (step-undefined nums cs n (F .rest) (F .made) (B .ok))
+    U = subst (λ q. T (undefined (F .rest) q)) (sym (B .lit)) (step-undefined nums brings cs n (F .rest) (F .made) (B .sources) (B .ok))
 
     In : Tail (cut i t) (F .rest)
     In = cut-inside i (F .at) (omega (arith, F .lev))
@@ -358,13 +404,13 @@ cut-undefined {nums} cs n {t₀} t i k b h lt = go (said (sameLiteral k (F .lit)
     go (fails e) = let p = sym (sameLiteral→eq (complement k) (F .lit) (or-second (sameLiteral k (F .lit)) (sameLiteral (complement k) (F .lit)) (F .hit) e)) in
         not-or-in (onTrail k (cut i t)) (onTrail (complement k) (cut i t)) (subst (λ q. T (not (onTrail q (cut i t)))) (ap complement p ∙ complement-twice k) (off (complement (F .lit)) U₂)) (subst (λ q. T (not (onTrail q (cut i t)))) p (off (F .lit) U₁))
 
-backtracked : {nums : Numbers} {arities : List ℕ} {cs from : List Clause} {n : ℕ} {t : Trail} (N : Instanced) (l : ℕ) → Stands nums arities cs from n t N
+backtracked : {nums : Numbers} {brings : Bool} {arities : List ℕ} {cs from : List Clause} {n : ℕ} {t : Trail} (N : Instanced) (l : ℕ) → Stands nums brings arities cs from n t N
     → T (literalExists (N .clause) l) → backLevel N l t < levelOf (literalInstance N l) t
     → Possible nums n (atomsOf (cut (backLevel N l t) t) ++ groundAtoms (N .instance) (N .clause .atoms))
     → T (leb (length (propagatedTrail (N .clause) (l - 1) (N .instance) (propagated (suc (length cs)) l (N .instance)) (cut (backLevel N l t) t))) 160)
-    → Built nums (snoc cs (N .clause)) n (propagatedTrail (N .clause) (l - 1) (N .instance) (propagated (suc (length cs)) l (N .instance)) (cut (backLevel N l t) t))
-backtracked {nums} {arities} {cs} {from} {n} {t} N l w okl lt possible room =
-    group (propagated (suc (length cs)) l (N .instance)) (built-more cs (N .clause) n (cut-built cs n t i (w .built) (w .tail) (cut-at i t (omega (arith, level-le (literalInstance N l) t))))) (
+    → Built nums brings (snoc cs (N .clause)) n (propagatedTrail (N .clause) (l - 1) (N .instance) (propagated (suc (length cs)) l (N .instance)) (cut (backLevel N l t) t))
+backtracked {nums} {brings} {arities} {cs} {from} {n} {t} N l w okl lt possible room =
+    group (propagated (suc (length cs)) l (N .instance)) [] (built-more cs (N .clause) n (cut-built cs n t i (w .built) (w .tail) (cut-at i t (omega (arith, level-le (literalInstance N l) t))))) (
       ok-new cs (N .clause),
       subst (λ K. PropOk nums n (cut i t) K (suc (length cs)) l (N .instance)) q
           (record { short = le→leb (length (N .instance)) mostVariables (omega (arith, w .sized .size, w .held .limited .few-variables)); named = and-i (literalExists (N .clause) l) (instanceFits n (N .clause) (N .instance)) okl (sized-instance n (N .clause) (N .instance) (w .sized)); undefined-yet = cut-undefined cs n t i (literalInstance N l) (w .built) (w .tail) lt; others = allOf-in (λ m. sameLiteral (ground (N .instance) m) (literalInstance N l) || isFalse (cut i t) (ground (N .instance) m)) (N .clause .literals) (λ m h. each m h (without-cases (l - 1) (N .clause .literals) noLiteral h)); possible = possible; room = room }),
@@ -385,7 +431,7 @@ backtrack-keeps : {nums : Numbers} {from : List Clause} (s : State) (l : ℕ) �
 backtrack-keeps {nums} {from} s l v a = record {
   held = λ C m. helds C (List·Memᴰ·append-cases (clauses s) (subst (List·Memᴰ C) (sym asc) m));
   level = sym (decisions-push (groundAtoms (N .instance) (N .clause .atoms)) (foreground (literalInstance N l) (propagated (suc (length (clauses s))) l (N .instance)) ∷ cut i (s .trail)) ∙ cut-at i (s .trail) (omega (arith, lt, level-le (literalInstance N l) (s .trail))) .depth);
-  now = record { lower = subst (λ cs. Built nums cs (s .constants) (next s (Backtrack l) .trail)) asc (backtracked N l w (k .1 .0) lt (a .decides .0 (k .1 .1 .1 .1 .0)) (and-l (leb (length (next s (Backtrack l) .trail)) 160) (leb (suc (length (s .learned))) 48) (k .1 .1 .1 .1 .1 .0))) };
+  now = record { lower = subst (λ cs. Built nums (bringsAt s) cs (s .constants) (next s (Backtrack l) .trail)) asc (backtracked N l w (k .1 .0) lt (a .decides .0 (k .1 .1 .1 .1 .0)) (and-l (leb (length (next s (Backtrack l) .trail)) 160) (leb (suc (length (s .learned))) 48) (k .1 .1 .1 .1 .1 .0))) };
 }
   where
     k : AllOk (asks (a .possible) s (Backtrack l))
@@ -394,7 +440,7 @@ backtrack-keeps {nums} {from} s l v a = record {
     N : Instanced
     N = conflictOf (s .conflict)
 
-    w : Stands nums (s .arities) (clauses s) from (s .constants) (s .trail) N
+    w : Stands nums (bringsAt s) (s .arities) (clauses s) from (s .constants) (s .trail) N
     w = stood s (s .conflict) (v .now) (k .0)
 
     i : ℕ
@@ -416,7 +462,7 @@ inv-step {nums} {from} s x s′ v a = subst (Inv nums from) (sym (a .is)) (go x 
   where
     go : (x : Step) → Accepted nums s x (next s x) → Inv nums from (next s x)
     go (Propagate c l τ) a = propagate-keeps s c l τ v a
-    go (Decide c l g τ) a = decide-keeps s c l g τ v a
+    go (Decide c l g τ zs) a = decide-keeps s c l g τ zs v a
     go (Conflict c τ) a = conflict-keeps s c τ v a
     go (Resolve l) a = resolve-keeps s l v a
     go (Factorize i j) a = factorize-keeps s i j v a

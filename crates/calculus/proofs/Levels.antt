@@ -2,6 +2,7 @@
 use mathlib.Core.Path.{_∙_, _≡_, ap, refl, subst, sym}
 use mathlib.Core.Logic.{_⊎_, inl, inr}
 use mathlib.Core.List.{List, List·Memᴰ, List·Memᴰ·cases-cons, List·Memᴰ·not-nil, Memᴰ·of-map, [], _++_, _∷_, map}
+use mathlib.Core.Option.{some}
 use mathlib.Core.Bool.{Bool, _||_, cond, false, not, true}
 use Prim.Native.Nat.{_-_, _<_, _≤_, max, min, suc, zero, ℕ}
 use native.Mathlib.Omega.{arith}
@@ -10,15 +11,15 @@ use lib.ListN.{List·getD-append, getD, length, length-append}
 use lib.Seq.{getD-append-seam}
 use Rattle.basis.specs.declared.Literal.{Literal}
 use Rattle.lists.proofs.Denials.{not-or, or-second}
-use Rattle.lists.proofs.Members.{allOf-in, allOf-out, anyOf-in, getD-mem}
+use Rattle.lists.proofs.Members.{allOf-in, allOf-out, anyOf-in, getD-mem, map-same}
 use Rattle.lists.proofs.Tests.{F→eq, Said, T→eq, and-i, and-l, and-r, fails, holds, or-r, said}
 use Rattle.lists.specs.Lists.{allOf}
 use Rattle.calculus.specs.Checks.{between}
 use Rattle.calculus.specs.Clauses.{Clause, Instanced, complement, ground, noClause, sameLiteral}
-use Rattle.calculus.specs.Tests.{clauseExists, complementInConflict, instanceFits}
-use Rattle.calculus.specs.Rules.{levelAfterSkip, withoutLast}
+use Rattle.calculus.specs.Tests.{clauseExists, complementInConflict, fitsIn, instanceFits, sourceFits}
+use Rattle.calculus.specs.Rules.{bring, levelAfterSkip, sourceAtom, sourceAtoms, sourceIn, withoutLast}
 use Rattle.calculus.specs.States.{clauseAt}
-use Rattle.calculus.specs.Trails.{Entry, Origin, Trail, background, cut, decisions, foreground, isDecision, isFalse, isLiteral, largestLevel, levelOf, onTrail}
+use Rattle.calculus.specs.Trails.{Entry, Origin, Source, Trail, background, cut, decisions, foreground, isDecision, isFalse, isLiteral, largestLevel, levelOf, onTrail}
 use Rattle.calculus.proofs.Instances.{Sized}
 use Rattle.calculus.proofs.Merged.{sameLiteral-refl, sameLiteral→eq}
 use Rattle.calculus.proofs.OnTrail.{complement-twice}
@@ -55,7 +56,7 @@ tail-shorter (e ∷ t) h = tail-more h
 
 pub skip-false : (N : Instanced) (t : Trail) → T (not (complementInConflict N t)) → (l : Literal) → List·Memᴰ l (map (ground (N .instance)) (N .clause .literals)) → T (isFalse t l) → T (isFalse (withoutLast t) l)
 skip-false N [] b l m h = h
-skip-false N (background a ∷ t) b l m h = h
+skip-false N (background a o ∷ t) b l m h = h
 skip-false N (foreground k s ∷ t) b l m h = go (said (sameLiteral (complement l) k)) h
   where
     go : Said (sameLiteral (complement l) k) → T (sameLiteral (complement l) k || onTrail (complement l) t) → T (onTrail (complement l) t)
@@ -97,6 +98,28 @@ clause-new cs D = ap (λ q. getD (snoc cs D) q noClause) e ∙ getD-append-seam 
 
 pub ok-new : (cs : List Clause) (D : Clause) → T (clauseExists (snoc cs D) (suc (length cs)))
 ok-new cs D = and-i (leb 1 (suc (length cs))) (leb (suc (length cs)) (length (snoc cs D))) (le→leb 1 (suc (length cs)) (omega arith)) (le→leb (suc (length cs)) (length (snoc cs D)) (omega (arith, length-append cs (D ∷ []))))
+
+-- .. and so do those by which decisions named atoms.
+source-more : (cs : List Clause) (D : Clause) (n : ℕ) (z : Source) → T (sourceFits cs n z) → T (sourceFits (snoc cs D) n z) × (sourceAtom (snoc cs D) z ≡ sourceAtom cs z)
+source-more cs D n z h =
+    let k = and-l (clauseExists cs (z .clause)) (fitsIn n (clauseAt cs (z .clause)) z) h in
+    let e = clause-keep cs D (z .clause) k in (
+      and-i (clauseExists (snoc cs D) (z .clause)) (fitsIn n (clauseAt (snoc cs D) (z .clause)) z) (ok-more cs D (z .clause) k)
+          (subst (λ K. T (fitsIn n K z)) (sym e) (and-r (clauseExists cs (z .clause)) (fitsIn n (clauseAt cs (z .clause)) z) h)),
+      ap (λ K. sourceIn K z) e,
+    )
+
+pub sources-more : (cs : List Clause) (D : Clause) (n : ℕ) (zs : List Source) → T (allOf (sourceFits cs n) zs) → T (allOf (sourceFits (snoc cs D) n) zs)
+sources-more cs D n zs h = allOf-in (sourceFits (snoc cs D) n) zs (λ z m. source-more cs D n z (allOf-out (sourceFits cs n) zs h m) .0)
+
+pub sources-keep : (cs : List Clause) (D : Clause) (n : ℕ) (zs : List Source) → T (allOf (sourceFits cs n) zs) → sourceAtoms (snoc cs D) zs ≡ sourceAtoms cs zs
+sources-keep cs D n zs h = map-same (sourceAtom (snoc cs D)) (sourceAtom cs) zs (λ z m. source-more cs D n z (allOf-out (sourceFits cs n) zs h m) .1)
+
+pub bring-keep : (cs : List Clause) (D : Clause) (n : ℕ) (zs : List Source) → T (allOf (sourceFits cs n) zs) → (t : Trail) → bring (snoc cs D) zs t ≡ bring cs zs t
+bring-keep cs D n [] h t = refl
+bring-keep cs D n (z ∷ zs) h t =
+    ap (λ a. bring (snoc cs D) zs (background a (some z) ∷ t)) (source-more cs D n z (and-l (sourceFits cs n z) (allOf (sourceFits cs n) zs) h) .1)
+    ∙ bring-keep cs D n zs (and-r (sourceFits cs n z) (allOf (sourceFits cs n) zs) h) (background (sourceAtom cs z) (some z) ∷ t)
 
 -- The cut
 pub tail-trans : {t u w : Trail} → Tail t u → Tail u w → Tail t w
@@ -188,7 +211,7 @@ pub record Found (k : Literal) (t : Trail) : Type 0 where
 
 pub found : (k : Literal) (t : Trail) → zero < levelOf k t → Found k t
 found k [] h = absurd (omega arith)
-found k (background a ∷ t) h = let r = found k t h in record { lit = r .lit; made = r .made; rest = r .rest; at = there (r .at); hit = r .hit; lev = r .lev }
+found k (background a o ∷ t) h = let r = found k t h in record { lit = r .lit; made = r .made; rest = r .rest; at = there (r .at); hit = r .hit; lev = r .lev }
 found k (foreground l m ∷ t) h = go (λ h. found k t h) (said (sameLiteral k l || sameLiteral (complement k) l))
   where
     go : (zero < levelOf k t → Found k t) → Said (sameLiteral k l || sameLiteral (complement k) l) → Found k (foreground l m ∷ t)

@@ -16,6 +16,7 @@ pub mod Class
 pub mod Levels
 pub mod Invariant
 pub mod Sound
+pub mod Intact
 pub mod Merges
 pub mod Closed
 pub mod Certificates

@@ -30,7 +30,7 @@ on-out t l h = let (e, m, k) = anyOf-out (isLiteral l) t h in go e m k
   where
     go : (e : Entry) → List·Memᴰ e t → T (isLiteral l e) → On t l
     go (foreground m o) i k = record { origin = o; entry = rw (sameLiteral→eq l m k) i }
-    go (background a) i k = absurd k
+    go (background a o) i k = absurd k
 
 pub on-in : (t : Trail) (l : Literal) → On t l → T (onTrail l t)
 on-in t l h = anyOf-in (isLiteral l) t (h .entry) (sameLiteral-refl l)

@@ -28,7 +28,7 @@ pub admitted-reached : (J : Judge) (s : State) → Admitted s → Reached J (J .
 admitted-reached J s a = start-reached J s (admitted-starts s a)
 
 -- One step more
-run-more : (J : Judge) {o o₁ : J .Over} {xs : List Step} (x : Step) (a : Reply (J .Over)) → Run J o xs o₁ → J .Gives o₁ x a → Run J o (xs ++ (x ∷ [])) (a .state)
+pub run-more : (J : Judge) {o o₁ : J .Over} {xs : List Step} (x : Step) (a : Reply (J .Over)) → Run J o xs o₁ → J .Gives o₁ x a → Run J o (xs ++ (x ∷ [])) (a .state)
 run-more J {o} x a (Run.over e) g = subst (λ q. Run J q (x ∷ []) (a .state)) (sym e) (Run.then a g (Run.over refl))
 run-more J x a (Run.then b h r) g = Run.then b h (run-more J x a r g)
 

@@ -1,35 +1,40 @@
 -- What every state reached has; soundness and replay over any run with refused steps in it.
 use mathlib.Core.Path.{_∙_, _≡_, ap, refl, subst, sym}
 use mathlib.Core.Logic.{_⊎_, inl, inr}
-use mathlib.Core.List.{List, List·Memᴰ, List·Memᴰ·append-cases, List·Memᴰ·eq-of-singleton, List·Memᴰ·head, List·Memᴰ·not-nil, List·Memᴰ·tail, Memᴰ·append-left, Memᴰ·append-right, Memᴰ·map, [], _++_, _∷_}
+use mathlib.Core.List.{List, List·Memᴰ, List·Memᴰ·append-cases, List·Memᴰ·eq-of-singleton, List·Memᴰ·head, List·Memᴰ·not-nil, List·Memᴰ·tail, Memᴰ·append-left, Memᴰ·append-right, Memᴰ·map, [], _++_, _∷_, append-nil}
 use mathlib.Core.Option.{Option, none, some}
-use mathlib.Core.Bool.{Bool, cond, false, true}
-use Prim.Native.Nat.{_≤_, suc, zero, ℕ}
+use mathlib.Core.Bool.{Bool, _||_, cond, false, not, true}
+use Prim.Native.Nat.{_≤_, zero, ℕ}
 use native.Mathlib.Decide.{ℕ-discrete}
 use native.Mathlib.Omega.{arith}
-use lib.Dec.{T, leb→le}
+use lib.Dec.{T, T-not, leb→le, not-T}
 use lib.ListN.{length, length-append}
-use Rattle.basis.specs.Atoms.{Possible}
+use Rattle.basis.specs.Atoms.{Possible, denial}
 use Rattle.basis.specs.Limits.{mostArguments, mostConstants, mostEntries, mostInput, mostLearned, mostPredicates}
 use Rattle.basis.specs.Numbers.{Numbers}
-use Rattle.basis.specs.Refusals.{accepted, keptNotPossible}
+use Rattle.basis.specs.Refusals.{accepted, keptNotPossible, notPossible}
 use Rattle.basis.specs.declared.Atom.{Atom}
 use Rattle.basis.specs.declared.Literal.{Literal}
-use Rattle.lists.proofs.Tests.{F→eq, Said, T→eq, fails, holds, said}
+use Rattle.lists.proofs.Denials.{not-or}
+use Rattle.lists.proofs.Members.{anyOf-in}
+use Rattle.lists.proofs.Tests.{F→eq, Said, T→eq, and-l, and-r, fails, holds, said}
+use Rattle.lists.specs.Lists.{anyOf}
 use Rattle.calculus.specs.Class.{InClass, Limited}
-use Rattle.calculus.specs.Clauses.{Clause, Instanced, ground, groundAtoms}
+use Rattle.calculus.specs.Clauses.{Clause, Instanced, ground, groundAtoms, sameAtom}
 use Rattle.calculus.specs.Conditions.{Allowed, FirstLacking, Judged, conditions}
-use Rattle.calculus.specs.Rules.{Answer, backLevel, next}
+use Rattle.calculus.specs.Rules.{Answer, backLevel, bring, decidedTrail, next, sourceAtom, sourceAtoms, question}
 use Rattle.calculus.specs.Runs.{AcceptedRun, Reached, Run, Start, plain, replayed, restarted}
-use Rattle.calculus.specs.Sound.{AdmittedSound, EveryStateReached, Never17, Once, Replays, RestartedSound, RestartedStarts, SoundJudge}
+use Rattle.calculus.specs.Sound.{AdmittedSound, EveryStateReached, Never17, NoneBroughtNever13, Once, Replays, RestartedSound, RestartedStarts, SoundJudge}
 use Rattle.calculus.specs.States.{Backtrack, Conflict, Decide, Factorize, Grow, Propagate, Resolve, Skip, State, Step, Unknown, clauseAt, clauses, conflictOf}
-use Rattle.calculus.specs.Trails.{Entry, Origin, Trail, appendAtoms, atomOnTrail, atomsOf, background, cut, decided, decisions, foreground, isFalse, propagated}
+use Rattle.calculus.specs.Trails.{Entry, Origin, Source, Trail, appendAtoms, atomOnTrail, atomsOf, background, cut, decided, decisions, foreground, isFalse, propagated}
+use Rattle.calculus.specs.Tests.{atomsUndefined}
 use Rattle.calculus.specs.Truth.{Follows, Reading, True}
 use Rattle.calculus.proofs.Answers.{accepted-exactly-if-allowed, acceptance, not-lacking, possible-none}
-use Rattle.calculus.proofs.Invariant.{Inv, Now, Stands, inv-step, possible-sub, refuted, step-undefined}
+use Rattle.calculus.proofs.Invariant.{Inv, Now, Stands, inv-step, possible-sub, refuted}
 use Rattle.calculus.proofs.Levels.{cut-tail}
+use Rattle.calculus.proofs.Merged.{sameAtom-refl}
 use Rattle.calculus.proofs.Runs.{admitted-starts, none-learned}
-use Rattle.calculus.proofs.Trails.{Built, StepOk, Tail, atomsBy, built-again, empty, group, grown, here, literalBy, there}
+use Rattle.calculus.proofs.Trails.{Built, StepOk, Tail, atoms-bring, bringsAt, built-again, empty, group, grown, here, literalBy, on-mem, there}
 
 atoms-tail : {t u : Trail} {a : Atom} → Tail t u → List·Memᴰ a (atomsOf t) → List·Memᴰ a (atomsOf u)
 atoms-tail {a = a} (here e) m = subst (λ q. List·Memᴰ a (atomsOf q)) e m
@@ -37,10 +42,10 @@ atoms-tail {a = a} (there {e = e} {u = u} h) m = go e (atoms-tail h m)
   where
     go : (e : Entry) → List·Memᴰ a (atomsOf u) → List·Memᴰ a (atomsOf (e ∷ u))
     go (foreground l s) m = m
-    go (background b) m = Memᴰ·append-left (b ∷ []) m
+    go (background b o) m = Memᴰ·append-left (b ∷ []) m
 
 -- The atoms of a standing conflict are possible together with any cut of the trail
-cut-possible : {nums : Numbers} {arities : List ℕ} {cs input : List Clause} {n : ℕ} {t : Trail} {N : Instanced} → Stands nums arities cs input n t N → (i : ℕ) → Possible nums n (atomsOf (cut i t) ++ groundAtoms (N .instance) (N .clause .atoms))
+cut-possible : {nums : Numbers} {brings : Bool} {arities : List ℕ} {cs input : List Clause} {n : ℕ} {t : Trail} {N : Instanced} → Stands nums brings arities cs input n t N → (i : ℕ) → Possible nums n (atomsOf (cut i t) ++ groundAtoms (N .instance) (N .clause .atoms))
 cut-possible {t = t} {N = N} w i = possible-sub (λ a m. go a (List·Memᴰ·append-cases (atomsOf (cut i t)) m)) (w .possible)
   where
     go : (a : Atom) → List·Memᴰ a (atomsOf (cut i t)) ⊎ List·Memᴰ a (groundAtoms (N .instance) (N .clause .atoms)) → List·Memᴰ a (atomsOf (w .t₀) ++ groundAtoms (N .instance) (N .clause .atoms))
@@ -49,45 +54,62 @@ cut-possible {t = t} {N = N} w i = possible-sub (λ a m. go a (List·Memᴰ·app
 
 once-push : (az : List Atom) (t : Trail) → Once t → Once (appendAtoms az t)
 once-push [] t h = h
-once-push (a ∷ az) t h = once-push az (cond (atomOnTrail a t) t (background a ∷ t)) (go (said (atomOnTrail a t)))
+once-push (a ∷ az) t h = once-push az (cond (atomOnTrail a t) t (background a none ∷ t)) (go (said (atomOnTrail a t)))
   where
-    go : Said (atomOnTrail a t) → Once (cond (atomOnTrail a t) t (background a ∷ t))
-    go (holds k) = subst (λ b. Once (cond b t (background a ∷ t))) (sym (T→eq (atomOnTrail a t) k)) h
-    go (fails k) = subst (λ b. Once (cond b t (background a ∷ t))) (sym (F→eq (atomOnTrail a t) k)) (k, h)
+    go : Said (atomOnTrail a t) → Once (cond (atomOnTrail a t) t (background a none ∷ t))
+    go (holds k) = subst (λ b. Once (cond b t (background a none ∷ t))) (sym (T→eq (atomOnTrail a t) k)) h
+    go (fails k) = subst (λ b. Once (cond b t (background a none ∷ t))) (sym (F→eq (atomOnTrail a t) k)) (k, h)
 
-pub built-once : {nums : Numbers} {cs : List Clause} {n : ℕ} {t : Trail} → Built nums cs n t → Once t
+-- What is not among a trail's atoms is not on it.
+not-among : (a : Atom) (t : Trail) → T (not (anyOf (sameAtom a) (atomsOf t))) → T (not (atomOnTrail a t))
+not-among a t h = not-T (atomOnTrail a t) (λ k. T-not (anyOf (sameAtom a) (atomsOf t)) h (anyOf-in (sameAtom a) (atomsOf t) (on-mem a t k) (sameAtom-refl a)))
+
+once-bring : (cs : List Clause) (zs : List Source) (t : Trail) → T (atomsUndefined (atomsOf t) (sourceAtoms cs zs)) → Once t → Once (bring cs zs t)
+once-bring cs [] t h o = o
+once-bring cs (z ∷ zs) t h o =
+    let a = sourceAtom cs z in
+    let not-there = anyOf (sameAtom a) (atomsOf t) in
+    let not-denied = anyOf (sameAtom (denial a)) (atomsOf t) in
+    let rest = atomsUndefined (atomsOf t ++ (a ∷ [])) (sourceAtoms cs zs) in
+    once-bring cs zs (background a (some z) ∷ t) (and-r (not (not-there || not-denied)) rest h) (not-among a t (not-or not-there not-denied (and-l (not (not-there || not-denied)) rest h) .0), o)
+
+once-grown : (nums : Numbers) (brings : Bool) (cs : List Clause) (n : ℕ) (t : Trail) (m : Origin) (zs : List Source) → StepOk nums brings cs n t m zs → Once t → Once (grown cs m zs t)
+once-grown nums brings cs n t (propagated c l τ) zs k o = once-push (groundAtoms τ (clauseAt cs c .atoms)) (foreground (literalBy cs (propagated c l τ)) (propagated c l τ) ∷ t) (k .1 .undefined-yet, o)
+once-grown nums brings cs n t (decided c l b τ q) zs k o = once-bring cs zs (foreground (literalBy cs (decided c l b τ q)) (decided c l b τ q) ∷ t) (k .1 .0 .free) (k .1 .0 .undefined-yet, o)
+
+pub built-once : {nums : Numbers} {brings : Bool} {cs : List Clause} {n : ℕ} {t : Trail} → Built nums brings cs n t → Once t
 built-once (empty e) = subst Once (sym e) tt
-built-once {nums} {cs} {n} (group {t = u} m b k e) = subst Once (sym e) (once-push (atomsBy cs m) (foreground (literalBy cs m) m ∷ u) (step-undefined nums cs n u m k, built-once b))
+built-once {nums} {brings} {cs} {n} (group {t = u} m zs b k e) = subst Once (sym e) (once-grown nums brings cs n u m zs k (built-once b))
 
 atoms-from : (az : List Atom) (t : Trail) {a : Atom} → List·Memᴰ a (atomsOf (appendAtoms az t)) → List·Memᴰ a (atomsOf t) ⊎ List·Memᴰ a az
 atoms-from [] t m = inl m
-atoms-from (b ∷ az) t {a} m = go (atomOnTrail b t) (atoms-from az (cond (atomOnTrail b t) t (background b ∷ t)) m)
+atoms-from (b ∷ az) t {a} m = go (atomOnTrail b t) (atoms-from az (cond (atomOnTrail b t) t (background b none ∷ t)) m)
   where
     last : List·Memᴰ a (atomsOf t) ⊎ List·Memᴰ a (b ∷ []) → List·Memᴰ a (atomsOf t) ⊎ List·Memᴰ a (b ∷ az)
     last (inl h) = inl h
     last (inr h) = inr (List·Memᴰ·head (List·Memᴰ·eq-of-singleton h))
 
-    go : (c : Bool) → List·Memᴰ a (atomsOf (cond c t (background b ∷ t))) ⊎ List·Memᴰ a az → List·Memᴰ a (atomsOf t) ⊎ List·Memᴰ a (b ∷ az)
+    go : (c : Bool) → List·Memᴰ a (atomsOf (cond c t (background b none ∷ t))) ⊎ List·Memᴰ a az → List·Memᴰ a (atomsOf t) ⊎ List·Memᴰ a (b ∷ az)
     go c (inr h) = inr (List·Memᴰ·tail h)
     go true (inl h) = inl h
     go false (inl h) = last (List·Memᴰ·append-cases (atomsOf t) h)
 
-pub built-possible : {nums : Numbers} {cs : List Clause} {n : ℕ} {t : Trail} → Built nums cs n t → Possible nums n (atomsOf t)
+pub built-possible : {nums : Numbers} {brings : Bool} {cs : List Clause} {n : ℕ} {t : Trail} → Built nums brings cs n t → Possible nums n (atomsOf t)
 built-possible {nums} {n = n} (empty e) = subst (λ t. Possible nums n (atomsOf t)) (sym e) (possible-none nums n)
-built-possible {nums} {cs} {n} {t} (group {t = u} m b k e) = subst (λ t. Possible nums n (atomsOf t)) (sym e) (go m k (built-possible b))
+built-possible {nums} {brings} {cs} {n} {t} (group {t = u} m zs b k e) = subst (λ t. Possible nums n (atomsOf t)) (sym e) (go m k)
   where
-    go : (m : Origin) → StepOk nums cs n u m → Possible nums n (atomsOf u) → Possible nums n (atomsOf (grown cs m u))
-    go (propagated c l τ) k p = possible-sub (λ a h. both a (atoms-from (groundAtoms τ (clauseAt cs c .atoms)) (foreground (literalBy cs (propagated c l τ)) (propagated c l τ) ∷ u) h)) (k .1 .possible)
+    go : (m : Origin) → StepOk nums brings cs n u m zs → Possible nums n (atomsOf (grown cs m zs u))
+    go (propagated c l τ) k = possible-sub (λ a h. both a (atoms-from (groundAtoms τ (clauseAt cs c .atoms)) (foreground (literalBy cs (propagated c l τ)) (propagated c l τ) ∷ u) h)) (k .1 .possible)
       where
         both : (a : Atom) → List·Memᴰ a (atomsOf u) ⊎ List·Memᴰ a (groundAtoms τ (clauseAt cs c .atoms)) → List·Memᴰ a (atomsOf u ++ groundAtoms τ (clauseAt cs c .atoms))
         both a (inl h) = Memᴰ·append-left (groundAtoms τ (clauseAt cs c .atoms)) h
         both a (inr h) = Memᴰ·append-right (atomsOf u) h
-    go (decided c l b τ) k p = p
+    go (decided c l b τ q) k = subst (Possible nums n) (sym (atoms-bring cs zs (foreground (literalBy cs (decided c l b τ q)) (decided c l b τ q) ∷ u))) (k .1 .0 .possible)
 
 tail-once : {t u : Trail} → Tail t u → Once u → Once t
 tail-once {t} (here e) o = subst Once (sym e) o
 tail-once (there {e = foreground l m} h) o = tail-once h (o .1)
-tail-once (there {e = background a} h) o = tail-once h (o .1)
+tail-once (there {e = background a z} h) o = tail-once h (o .1)
 
 -- ---- runs
 
@@ -123,7 +145,7 @@ inv-run {s = s} v (Run.then {x = x} a j r) = inv-run (inv-judged s x a v j) r
 -- No rule changes the input or the arities.
 next-input : (s : State) (x : Step) → (next s x .input ≡ s .input) × (next s x .arities ≡ s .arities)
 next-input s (Propagate c l τ) = (refl, refl)
-next-input s (Decide c l g τ) = (refl, refl)
+next-input s (Decide c l g τ zs) = (refl, refl)
 next-input s (Conflict c τ) = (refl, refl)
 next-input s (Resolve l) = (refl, refl)
 next-input s (Factorize i j) = (refl, refl)
@@ -148,13 +170,13 @@ run-input {s = s} (Run.then {x = x} a j r) = let h = run-input r in let k = judg
 
 -- ---- limits
 
-built-few : {nums : Numbers} {cs : List Clause} {n : ℕ} {t : Trail} → Built nums cs n t → length t ≤ mostEntries
+built-few : {nums : Numbers} {brings : Bool} {cs : List Clause} {n : ℕ} {t : Trail} → Built nums brings cs n t → length t ≤ mostEntries
 built-few (empty e) = omega (arith, ap length e)
-built-few {nums} {cs} {n} (group {t = u} m b k e) = omega (arith, ap length e, go m k)
+built-few {nums} {brings} {cs} {n} (group {t = u} m zs b k e) = omega (arith, ap length e, go m k)
   where
-    go : (m : Origin) → StepOk nums cs n u m → length (grown cs m u) ≤ mostEntries
-    go (propagated c l τ) k = leb→le (length (grown cs (propagated c l τ) u)) mostEntries (k .1 .room)
-    go (decided c l b τ) k = leb→le (suc (length u)) mostEntries (k .1 .room)
+    go : (m : Origin) → StepOk nums brings cs n u m zs → length (grown cs m zs u) ≤ mostEntries
+    go (propagated c l τ) k = leb→le (length (grown cs (propagated c l τ) zs u)) mostEntries (k .1 .room)
+    go (decided c l b τ q) (h, (k, i)) = subst (λ j. length (grown cs (decided c l b τ j) zs u) ≤ mostEntries) (sym i) (leb→le (length (decidedTrail cs c l b τ zs u)) mostEntries (k .room))
 
 shorter-tail : {t u : Trail} → Tail t u → length t ≤ length u
 shorter-tail {t} (here e) = omega (arith, ap length e)
@@ -170,7 +192,7 @@ pub record Counts (s : State) : Type 0 where
 
 counts-next : (nums : Numbers) (s : State) (x : Step) → Allowed nums s x → Counts s → Counts (next s x)
 counts-next nums s (Propagate c l τ) k h = record { few-constants = h .few-constants; few-learned = h .few-learned }
-counts-next nums s (Decide c l g τ) k h = record { few-constants = h .few-constants; few-learned = h .few-learned }
+counts-next nums s (Decide c l g τ zs) k h = record { few-constants = h .few-constants; few-learned = h .few-learned }
 counts-next nums s (Conflict c τ) k h = record { few-constants = h .few-constants; few-learned = h .few-learned }
 counts-next nums s (Resolve l) k h = record { few-constants = h .few-constants; few-learned = h .few-learned }
 counts-next nums s (Factorize i j) k h = record { few-constants = h .few-constants; few-learned = h .few-learned }
@@ -275,7 +297,7 @@ module _ (nums : Numbers) where
   pub sound-judge : SoundJudge nums (plain nums)
   sound-judge s₀ s xs K S r e z I h =
       let (input, arities) = run-input r in
-      refuted K (subst (λ q. Stands nums q (clauses s) (clauses s₀) (s .constants) (s .trail) K) arities (subst (Now nums (clauses s₀) s) e (inv-run (inv-start nums s₀ (S .start)) r .now))) z I
+      refuted K (subst (λ q. Stands nums (bringsAt s) q (clauses s) (clauses s₀) (s .constants) (s .trail) K) arities (subst (Now nums (clauses s₀) s) e (inv-run (inv-start nums s₀ (S .start)) r .now))) z I
       (λ C m. base C (List·Memᴰ·append-cases (s₀ .input) m))
     where
       base : (C : Clause) → List·Memᴰ C (s₀ .input) ⊎ List·Memᴰ C (s₀ .learned) → True nums (s₀ .arities) I C
@@ -287,11 +309,32 @@ module _ (nums : Numbers) where
   pub replays : Replays nums
   replays s h e =
       subst (AcceptedRun (plain nums) (restarted s) (replayed (s .trail)))
-      (λ i. record { arities = s .arities; trail = s .trail; input = s .input; learned = s .learned; constants = s .constants; level = sym (v .level) i; conflict = sym e i })
+      (λ i. record { version = s .version; arities = s .arities; trail = s .trail; input = s .input; learned = s .learned; constants = s .constants; level = sym (v .level) i; conflict = sym e i })
       (built-again s (subst (Now nums (clauses (h .first)) s) e (v .now) .lower))
     where
       v : Inv nums (clauses (h .first)) s
       v = inv-run (inv-start nums (h .first) (h .start)) (h .run)
+
+  -- ---- refusal 13 of a decision that brings nothing
+
+  pub none-brought-never-13 : NoneBroughtNever13 nums
+  none-brought-never-13 s h c l g τ zs none-brought a j e = go (subst (λ n. FirstLacking n (conditions nums s (Decide c l g τ zs))) e (j .first-lacking))
+    where
+      v : Inv nums (clauses (h .first)) s
+      v = inv-run (inv-start nums (h .first) (h .start)) (h .run)
+
+      asked : Possible nums (s .constants) (question s (Decide c l g τ zs))
+      asked = rw none-brought (rw (append-nil (atomsOf (s .trail))) (now-possible nums (clauses (h .first)) s (s .conflict) (v .now)))
+
+      go : FirstLacking notPossible (conditions nums s (Decide c l g τ zs)) → ⊥
+      go (inl (lacks, e)) = absurd (omega arith)
+      go (inr (h1, inl (lacks, e))) = absurd (omega arith)
+      go (inr (h1, inr (h2, inl (lacks, e)))) = absurd (omega arith)
+      go (inr (h1, inr (h2, inr (h3, inl (lacks, e))))) = absurd (omega arith)
+      go (inr (h1, inr (h2, inr (h3, inr (h4, inl (lacks, e)))))) = absurd (omega arith)
+      go (inr (h1, inr (h2, inr (h3, inr (h4, inr (h5, inl (lacks, e))))))) = lacks asked
+      go (inr (h1, inr (h2, inr (h3, inr (h4, inr (h5, inr (h6, inl (lacks, e)))))))) = absurd (omega arith)
+      go (inr (h1, inr (h2, inr (h3, inr (h4, inr (h5, inr (h6, inr (h7, e)))))))) = absurd (omega arith)
 
   -- ---- refusal 17
 
@@ -311,7 +354,7 @@ module _ (nums : Numbers) where
 
       go : (x : Step) → FirstLacking keptNotPossible (conditions nums s x) → ⊥
       go (Propagate c l τ) t = not-lacking keptNotPossible (conditions nums s (Propagate c l τ)) tt t
-      go (Decide c l g τ) t = not-lacking keptNotPossible (conditions nums s (Decide c l g τ)) tt t
+      go (Decide c l g τ zs) t = not-lacking keptNotPossible (conditions nums s (Decide c l g τ zs)) tt t
       go (Conflict c τ) t = not-lacking keptNotPossible (conditions nums s (Conflict c τ)) tt t
       go (Resolve l) t = not-lacking keptNotPossible (conditions nums s (Resolve l)) tt t
       go (Factorize i k) t = not-lacking keptNotPossible (conditions nums s (Factorize i k)) tt t

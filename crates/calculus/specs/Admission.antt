@@ -8,14 +8,15 @@ use lib.Dec.{eqb, leb}
 use lib.ListN.{length}
 use Rattle.basis.specs.Limits.{mostInput, mostPredicates, mostArguments, mostConstants}
 use Rattle.basis.specs.Refusals.{accepted, aboveLimit}
+use Rattle.basis.specs.declared.Version.{Version}
 use Rattle.lists.specs.Lists.{allOf}
 use Rattle.calculus.specs.Clauses.{Clause}
 use Rattle.calculus.specs.Class.{InClass, Limited, clauseRefusal}
 use Rattle.calculus.specs.States.{State}
 
 -- The state that admission makes
-abbrev pub fresh : ℕ → List ℕ → List Clause → State
-fresh constants arities cs = record { arities = arities; trail = []; input = cs; learned = []; constants = constants; level = zero; conflict = none }
+abbrev pub fresh : Version → ℕ → List ℕ → List Clause → State
+fresh version constants arities cs = record { version = version; arities = arities; trail = []; input = cs; learned = []; constants = constants; level = zero; conflict = none }
 
 -- ---- in the paper's terms
 
@@ -28,7 +29,7 @@ pub record Admitted (s : State) : Type 0 where
   pub few-clauses : length (s .input) ≤ mostInput
   pub in-class : (C : Clause) → List·Memᴰ C (s .input) → InClass (s .arities) C
   pub limited : (C : Clause) → List·Memᴰ C (s .input) → Limited C
-  pub new : s ≡ fresh (s .constants) (s .arities) (s .input)
+  pub new : s ≡ fresh (s .version) (s .constants) (s .arities) (s .input)
 
 -- ---- as a test
 

@@ -4,11 +4,12 @@ use mathlib.Core.Logic.{_↔_}
 use mathlib.Core.List.{List, List·Memᴰ}
 use Prim.Native.Nat.{_<_, _≤_, zero, ℕ}
 use lib.ListN.{length}
-use Rattle.basis.specs.Atoms.{Proper}
+use Rattle.basis.specs.Atoms.{InRange, Proper}
 use Rattle.basis.specs.Limits.{mostArguments, mostConstants, mostInput, mostPredicates}
 use Rattle.basis.specs.Refusals.{aboveLimit, accepted, lacksBound, occursNowhere, outOfRange}
 use Rattle.basis.specs.declared.Atom.{Atom}
 use Rattle.basis.specs.declared.Literal.{Literal}
+use Rattle.basis.specs.declared.Version.{Version}
 use Rattle.calculus.specs.Admission.{Admitted, Refused, admissionRefusal, fresh}
 use Rattle.calculus.specs.Class.{DifferencesBounded, InClass, Limited, Occurs, ProperLiteral, clauseRefusal}
 use Rattle.calculus.specs.Clauses.{Clause}
@@ -19,7 +20,7 @@ use Rattle.calculus.specs.States.{clauseAt}
 
 -- Every number in the clause is in its range.
 pub record FieldsInRange (arities : List ℕ) (C : Clause) : Type 0 where
-  pub atoms-proper : (a : Atom) → List·Memᴰ a (C .atoms) → Proper (C .variables) a
+  pub atoms-proper : (a : Atom) → List·Memᴰ a (C .atoms) → Proper InRange (C .variables) a
   pub literals-proper : (l : Literal) → List·Memᴰ l (C .literals) → ProperLiteral arities (C .variables) l
 
 -- "Each variable occurs in an atom or literal."
@@ -61,12 +62,12 @@ pub data AdmissionJudged (constants : ℕ) (arities : List ℕ) (cs : List Claus
       → ¬ (clauseRefusal arities (clauseAt cs k) ≡ accepted)
       → ((j : ℕ) → 1 ≤ j → j < k → clauseRefusal arities (clauseAt cs j) ≡ accepted)
       → AdmissionJudged constants arities cs r
-  admitted : r ≡ record { number = accepted; place = zero } → Admitted (fresh constants arities cs) → AdmissionJudged constants arities cs r
+  admitted : r ≡ record { number = accepted; place = zero } → ((version : Version) → Admitted (fresh version constants arities cs)) → AdmissionJudged constants arities cs r
 
 abbrev pub AdmissionRefusedRightly : Type 0
 AdmissionRefusedRightly = (constants : ℕ) (arities : List ℕ) (cs : List Clause) → AdmissionJudged constants arities cs (admissionRefusal constants arities cs)
 
--- A state is made exactly if it is admitted.
+-- A state is made exactly if it is admitted, whatever the version.
 abbrev pub AdmittedExactly : Type 0
-AdmittedExactly = (constants : ℕ) (arities : List ℕ) (cs : List Clause) →
-    (admissionRefusal constants arities cs .number ≡ accepted) ↔ Admitted (fresh constants arities cs)
+AdmittedExactly = (version : Version) (constants : ℕ) (arities : List ℕ) (cs : List Clause) →
+    (admissionRefusal constants arities cs .number ≡ accepted) ↔ Admitted (fresh version constants arities cs)

@@ -11,7 +11,7 @@ use lib.ListN.{length, getD, take, drop}
 use Rattle.basis.specs.declared.Atom.{Atom}
 use Rattle.basis.specs.Limits.{mostVariables, mostAtoms, mostLiterals, mostC}
 use Rattle.basis.specs.Refusals.{aboveLimit, outOfRange, occursNowhere, lacksBound}
-use Rattle.basis.specs.Atoms.{Proper}
+use Rattle.basis.specs.Atoms.{InRange, Proper}
 use Rattle.lists.specs.Lists.{upFrom, anyOf, allOf}
 use Rattle.calculus.specs.Checks.{between, _or_, firstRefusal}
 use Rattle.basis.specs.declared.Literal.{Literal}
@@ -55,7 +55,7 @@ pub record Limited (C : Clause) : Type 0 where
 
 -- The clause class, limits apart: clauses before their limits are counted have it too.
 pub record InClass (arities : List ℕ) (C : Clause) : Type 0 where
-  pub atoms-proper : (a : Atom) → List·Memᴰ a (C .atoms) → Proper (C .variables) a
+  pub atoms-proper : (a : Atom) → List·Memᴰ a (C .atoms) → Proper InRange (C .variables) a
   pub literals-proper : (l : Literal) → List·Memᴰ l (C .literals) → ProperLiteral arities (C .variables) l
   -- "Each variable occurs in an atom or literal."
   pub each-occurs : (x : ℕ) → 1 ≤ x → x ≤ C .variables → Occurs C x

@@ -2,21 +2,22 @@
 -- answer to a step. The paper's sections "The rules" and "Refusal numbers".
 use mathlib.Core.Path.{_≡_}
 use mathlib.Core.Logic.{_⊎_}
-use mathlib.Core.List.{List, List·Memᴰ, [], _∷_}
+use mathlib.Core.List.{List, List·Memᴰ, [], _++_, _∷_}
 use mathlib.Core.Option.{none, some}
 use Prim.Native.Nat.{_+_, _-_, _<_, _≤_, zero, ℕ}
 use lib.ListN.{getD, length}
-use Rattle.basis.specs.Atoms.{Possible}
-use Rattle.basis.specs.Limits.{mostConstants, mostEntries, mostLearned, mostVariables}
+use Rattle.basis.specs.Atoms.{Possible, denial}
+use Rattle.basis.specs.Limits.{mostBrought, mostConstants, mostEntries, mostLearned, mostVariables}
 use Rattle.basis.specs.Numbers.{Numbers}
 use Rattle.basis.specs.Refusals.{aboveLimit, accepted, alreadyDefined, keptNotPossible, noEntry, noRoom, noSuch, notAbove, notFalse, notPossible, outOfRange, unknownRule, wrongLiteral, wrongMoment}
+use Rattle.basis.specs.declared.Atom.{Atom}
 use Rattle.basis.specs.declared.Literal.{Literal}
 use Rattle.calculus.specs.Class.{Limited}
 use Rattle.calculus.specs.Clauses.{Clause, Instanced, complement, ground, noLiteral}
 use Rattle.calculus.specs.OnTrail.{False, Undefined}
-use Rattle.calculus.specs.Rules.{Answer, backLevel, decidedLiteral, isOne, lastLiteral, literalInstance, next, otherInstances, question}
+use Rattle.calculus.specs.Rules.{Answer, backLevel, broughtAt, decidedLiteral, isOne, lastLiteral, literalInstance, next, otherInstances, question, sourceAtoms}
 use Rattle.calculus.specs.States.{Backtrack, Conflict, Decide, Factorize, Grow, Propagate, Resolve, Skip, State, Step, Unknown, clauseAt, clauses, conflictOf}
-use Rattle.calculus.specs.Trails.{Origin, Trail, foreground, levelOf, propagated}
+use Rattle.calculus.specs.Trails.{Origin, Source, Trail, atomsOf, foreground, levelOf, propagated}
 
 -- ---- what the steps name
 
@@ -33,6 +34,18 @@ literalAt C l = getD (C .literals) (l - 1) noLiteral
 pub record InstanceOf (constants : ℕ) (C : Clause) (τ : List ℕ) : Type 0 where
   pub for-each-variable : length τ ≡ C .variables
   pub of-constants : (b : ℕ) → List·Memᴰ b τ → (1 ≤ b) × (b ≤ constants)
+
+-- A Decide names an atom rightly: "no such clause, literal or constant; wrong instance count", "also for a bad atom number". The clause may be a
+-- learned one, and the instance has a constant for each of its variables.
+pub record NamesAtom (s : State) (z : Source) : Type 0 where
+  pub clause : Names (clauses s) (z .clause)
+  pub atom : Names (clauseAt (clauses s) (z .clause) .atoms) (z .number)
+  pub instance : InstanceOf (s .constants) (clauseAt (clauses s) (z .clause)) (z .instance)
+
+-- "an atom so brought, or its denial, is on the trail or brought before it": none is. The atoms come after the known ones, which are the trail's.
+abbrev pub AtomsUndefined : (known : List Atom) → List Atom → Type 0
+AtomsUndefined known [] = Unit {0}
+AtomsUndefined known (a ∷ az) = (¬ List·Memᴰ a known) × ((¬ List·Memᴰ (denial a) known) × AtomsUndefined (known ++ (a ∷ [])) az)
 
 -- The last entry is this literal, propagated.
 pub record LastPropagated (t : Trail) (l : Literal) : Type 0 where
@@ -78,16 +91,24 @@ conditions N s (Propagate c l τ) =
     Possible N (s .constants) (question s (Propagate c l τ)) otherwise notPossible ∷
     -- "no room: .. trail"
     (length (next s (Propagate c l τ) .trail) ≤ mostEntries) otherwise noRoom ∷ []
--- "2 Decide (clause, literal, sign, instance). No conflict. The atom of the literal, with the sign given, is undefined."
-conditions N s (Decide c l g τ) =
+-- "2 Decide (clause, literal, sign, instance). No conflict. The atom of the literal, with the sign given, is undefined." Of the atoms brought, as
+-- source document 000 has it: each is one of a clause held, as it stands or denied, at constants; all are undefined; and they are satisfiable together
+-- with the trail's atoms and the constants' order.
+conditions N s (Decide c l g τ offered) =
     let C = clauseAt (clauses s) c in
-    (length τ ≤ mostVariables) otherwise aboveLimit ∷
-    -- "a Decide sign above 1"
-    (g ≤ 1) otherwise outOfRange ∷
+    let zs = broughtAt s offered in
+    -- "3 for the counts"
+    ((length τ ≤ mostVariables) × ((length zs ≤ mostBrought) × ((z : Source) → List·Memᴰ z zs → length (z .instance) ≤ mostVariables))) otherwise aboveLimit ∷
+    -- "a Decide sign above 1", "4 for its sign above 1"
+    ((g ≤ 1) × ((z : Source) → List·Memᴰ z zs → z .sign ≤ 1)) otherwise outOfRange ∷
     (s .conflict ≡ none) otherwise wrongMoment ∷
-    (Names (clauses s) c × (Names (C .literals) l × InstanceOf (s .constants) C τ)) otherwise noSuch ∷
-    Undefined (s .trail) (decidedLiteral C (l - 1) (isOne g) τ) otherwise alreadyDefined ∷
-    (length (next s (Decide c l g τ) .trail) ≤ mostEntries) otherwise noRoom ∷ []
+    -- "10 also for a bad atom number"
+    ((Names (clauses s) c × (Names (C .literals) l × InstanceOf (s .constants) C τ)) × ((z : Source) → List·Memᴰ z zs → NamesAtom s z)) otherwise noSuch ∷
+    -- "11 also when an atom so brought, or its denial, is on the trail or brought before it"
+    (Undefined (s .trail) (decidedLiteral C (l - 1) (isOne g) τ) × AtomsUndefined (atomsOf (s .trail)) (sourceAtoms (clauses s) zs)) otherwise alreadyDefined ∷
+    -- "13 now also for Decide"
+    Possible N (s .constants) (question s (Decide c l g τ offered)) otherwise notPossible ∷
+    (length (next s (Decide c l g τ offered) .trail) ≤ mostEntries) otherwise noRoom ∷ []
 -- "3 Conflict (clause, instance). No conflict. All literals false; trail and clause atoms together possible."
 conditions N s (Conflict c τ) =
     let C = clauseAt (clauses s) c in
@@ -179,7 +200,7 @@ abbrev pub NamesNotFalse : State → Step → ℕ → Type 0
 NamesNotFalse s (Propagate c l τ) p =
     let C = clauseAt (clauses s) c in
     FirstNotFalse (s .trail) τ (λ m. ¬ (ground τ m ≡ ground τ (getD (C .literals) (l - 1) noLiteral))) (C .literals) p
-NamesNotFalse s (Decide c l g τ) p = ⊥
+NamesNotFalse s (Decide c l g τ zs) p = ⊥
 NamesNotFalse s (Conflict c τ) p = FirstNotFalse (s .trail) τ (λ m. Unit {0}) (clauseAt (clauses s) c .literals) p
 NamesNotFalse s (Resolve l) p = ⊥
 NamesNotFalse s (Factorize i j) p = ⊥

@@ -1,4 +1,5 @@
--- The paper's twelve small examples, E1 to E12, by one statement over the set. Proved in proofs/Examples.antt.
+-- The paper's twelve small examples, E1 to E12, by one statement over the set; and by another those of decisions that bring atoms. Proved in
+-- proofs/Examples.antt.
 use mathlib.Core.Path.{_≡_}
 use mathlib.Core.List.{List, List·Memᴰ, [], _∷_}
 use mathlib.Core.Option.{Option, none, some}
@@ -10,12 +11,13 @@ use Rattle.basis.specs.Atoms.{Possible}
 use Rattle.basis.specs.Numbers.{whole}
 use Rattle.basis.specs.declared.Atom.{Atom}
 use Rattle.basis.specs.declared.Literal.{Literal}
+use Rattle.basis.specs.declared.Version.the-variants.{One, Two}
 use Rattle.calculus.specs.Admission.{Admitted, fresh}
 use Rattle.calculus.specs.Clauses.{Clause, Instanced}
 use Rattle.calculus.specs.Conditions.{Judged}
 use Rattle.calculus.specs.Rules.{Answer, lastReason}
 use Rattle.calculus.specs.States.{Backtrack, Conflict, Decide, Factorize, Propagate, Resolve, Skip, State, Step, clauses}
-use Rattle.calculus.specs.Trails.{Entry, Trail, decided, foreground, propagated}
+use Rattle.calculus.specs.Trails.{Entry, Source, Trail, background, decided, foreground, propagated}
 
 -- ---- what an example says
 
@@ -42,7 +44,7 @@ pub data Example : Type 0 where
 abbrev pub Shown : Example → Type 0
 Shown (Yes n az) = Possible whole n az
 Shown (No n az) = ¬ Possible whole n az
-Shown (Admits n arities cs) = Admitted (fresh n arities cs)
+Shown (Admits n arities cs) = Admitted (fresh One n arities cs)
 Shown (Runs s xs s′) = Goes s xs s′
 Shown (LastReason s R) = lastReason (clauses s) (s .trail) .of ≡ R
 
@@ -71,7 +73,7 @@ tried x n e k = record { step = x; number = n; entries = e; level = k }
 
 -- A state with one constant and predicates P, Q of arity 1
 abbrev state : Trail → List Clause → List Clause → ℕ → Option Instanced → State
-state t input learned k c = record { arities = 1 ∷ 1 ∷ []; trail = t; input = input; learned = learned; constants = 1; level = k; conflict = c }
+state t input learned k c = record { version = One; arities = 1 ∷ 1 ∷ []; trail = t; input = input; learned = learned; constants = 1; level = k; conflict = c }
 
 abbrev a : List ℕ
 a = 1 ∷ []
@@ -82,6 +84,7 @@ input7 = clause 1 (at-most 1 10 ∷ []) (plain 1 1 ∷ []) ∷ clause 1 (at-leas
 
 abbrev end7 : State
 end7 = record {
+  version = One;
   arities = 1 ∷ [];
   trail = foreground (plain 1 1) (propagated 1 1 a) ∷ [];
   input = input7;
@@ -96,21 +99,21 @@ abbrev input8 : List Clause
 input8 = clause 3 [] (plain 1 1 ∷ plain 1 2 ∷ plain 2 3 ∷ []) ∷ []
 
 abbrev end8 : State
-end8 = state (foreground (plain 1 1) (propagated 1 1 (1 ∷ 1 ∷ 1 ∷ [])) ∷ foreground (denied 2 1) (decided 1 3 false (1 ∷ 1 ∷ 1 ∷ [])) ∷ []) input8 [] 1 none
+end8 = state (foreground (plain 1 1) (propagated 1 1 (1 ∷ 1 ∷ 1 ∷ [])) ∷ foreground (denied 2 1) (decided 1 3 false (1 ∷ 1 ∷ 1 ∷ []) 0) ∷ []) input8 [] 1 none
 
 -- x ≥ 3, y ≥ 3 ∥ ¬P(x) ∨ ¬P(y)
 abbrev input9 : List Clause
 input9 = clause 2 (at-least 1 3 ∷ at-least 2 3 ∷ []) (denied 1 1 ∷ denied 1 2 ∷ []) ∷ []
 
 abbrev end9 : State
-end9 = state (foreground (plain 1 1) (decided 1 1 true (1 ∷ 1 ∷ [])) ∷ []) input9 [] 1 (some (record { clause = clause 1 (at-least 1 3 ∷ []) (denied 1 1 ∷ []); instance = a }))
+end9 = state (foreground (plain 1 1) (decided 1 1 true (1 ∷ 1 ∷ []) 0) ∷ []) input9 [] 1 (some (record { clause = clause 1 (at-least 1 3 ∷ []) (denied 1 1 ∷ []); instance = a }))
 
 -- ¬P(x) ∨ Q(x) and ¬P(x) ∨ ¬Q(x)
 abbrev input10 : List Clause
 input10 = clause 1 [] (denied 1 1 ∷ plain 2 1 ∷ []) ∷ clause 1 [] (denied 1 1 ∷ denied 2 1 ∷ []) ∷ []
 
 abbrev decided-P : Entry
-decided-P = foreground (plain 1 1) (decided 1 1 true a)
+decided-P = foreground (plain 1 1) (decided 1 1 true a 0)
 
 abbrev propagated-Q : Entry
 propagated-Q = foreground (plain 2 1) (propagated 1 2 a)
@@ -144,19 +147,19 @@ twelve =
     Yes 2 (difference 1 2 (negℤ (pos 4)) ∷ at-least 1 0 ∷ at-most 2 4 ∷ []) ∷
     -- "E7 the run above": the listing's numbers, and a conflict without literals at the end.
     Admits 1 (1 ∷ []) input7 ∷
-    Runs (fresh 1 (1 ∷ []) input7) (tried (Propagate 1 1 a) 0 2 0 ∷ tried (Conflict 2 a) 0 2 0 ∷ tried Skip 0 1 0 ∷ tried (Resolve 1) 0 1 0 ∷ []) end7 ∷
+    Runs (fresh One 1 (1 ∷ []) input7) (tried (Propagate 1 1 a) 0 2 0 ∷ tried (Conflict 2 a) 0 2 0 ∷ tried Skip 0 1 0 ∷ tried (Resolve 1) 0 1 0 ∷ []) end7 ∷
     -- "E8 P(x)∨P(y)∨Q(z), Q(a) false, all a: reason P(x)∨Q(z), two variables."
     Admits 1 (1 ∷ 1 ∷ []) input8 ∷
-    Runs (fresh 1 (1 ∷ 1 ∷ []) input8) (tried (Decide 1 3 0 (1 ∷ 1 ∷ 1 ∷ [])) 0 1 1 ∷ tried (Propagate 1 1 (1 ∷ 1 ∷ 1 ∷ [])) 0 2 1 ∷ []) end8 ∷
+    Runs (fresh One 1 (1 ∷ 1 ∷ []) input8) (tried (Decide 1 3 0 (1 ∷ 1 ∷ 1 ∷ []) []) 0 1 1 ∷ tried (Propagate 1 1 (1 ∷ 1 ∷ 1 ∷ [])) 0 2 1 ∷ []) end8 ∷
     LastReason end8 (record { clause = clause 2 [] (plain 1 1 ∷ plain 2 2 ∷ []); instance = 1 ∷ 1 ∷ [] }) ∷
     -- "E9 Factorize of x ≥ 3, y ≥ 3 ∥ ¬P(x)∨¬P(y), both a: one atom, one literal."
     Admits 1 (1 ∷ 1 ∷ []) input9 ∷
-    Runs (fresh 1 (1 ∷ 1 ∷ []) input9) (tried (Decide 1 1 1 (1 ∷ 1 ∷ [])) 0 1 1 ∷ tried (Conflict 1 (1 ∷ 1 ∷ [])) 0 1 1 ∷ tried (Factorize 1 2) 0 1 1 ∷ []) end9 ∷
+    Runs (fresh One 1 (1 ∷ 1 ∷ []) input9) (tried (Decide 1 1 1 (1 ∷ 1 ∷ []) []) 0 1 1 ∷ tried (Conflict 1 (1 ∷ 1 ∷ [])) 0 1 1 ∷ tried (Factorize 1 2) 0 1 1 ∷ []) end9 ∷
     -- "From ¬P(x)∨Q(x) and ¬P(x)∨¬Q(x): Decide P(a), Propagate Q(a), Conflict on the second, then E10 Resolve gives ¬P(x)∨¬P(x), and
     -- Backtrack at once is refused 15;"
     Admits 1 (1 ∷ 1 ∷ []) input10 ∷
-    Runs (fresh 1 (1 ∷ 1 ∷ []) input10)
-    (tried (Decide 1 1 1 a) 0 1 1 ∷ tried (Propagate 1 2 a) 0 2 1 ∷ tried (Conflict 2 a) 0 2 1 ∷ tried (Resolve 2) 0 2 1 ∷ tried (Backtrack 1) 15 2 1 ∷ []) end10 ∷
+    Runs (fresh One 1 (1 ∷ 1 ∷ []) input10)
+    (tried (Decide 1 1 1 a []) 0 1 1 ∷ tried (Propagate 1 2 a) 0 2 1 ∷ tried (Conflict 2 a) 0 2 1 ∷ tried (Resolve 2) 0 2 1 ∷ tried (Backtrack 1) 15 2 1 ∷ []) end10 ∷
     -- "E11 after Factorize and Skip, another Skip is refused 15, Resolve 14;"
     Runs end10 (tried (Factorize 1 2) 0 2 1 ∷ tried Skip 0 1 1 ∷ tried Skip 15 1 1 ∷ tried (Resolve 1) 14 1 1 ∷ []) end11 ∷
     -- "E12 Backtrack leaves ¬P(a), level 0, clause 3 ¬P(x)."
@@ -165,3 +168,53 @@ twelve =
 
 abbrev pub TwelveExamples : Type 0
 TwelveExamples = (x : Example) → List·Memᴰ x twelve → Shown x
+
+-- ---- decisions that bring atoms, in version 2: P(x) with x ≤ 5, Q(x) with x ≥ 6, P(x) with x ≤ 4
+
+abbrev input13 : List Clause
+input13 = clause 1 (at-most 1 5 ∷ []) (plain 1 1 ∷ []) ∷ clause 1 (at-least 1 6 ∷ []) (plain 2 1 ∷ []) ∷ clause 1 (at-most 1 4 ∷ []) (plain 1 1 ∷ []) ∷ []
+
+abbrev begun13 : State
+begun13 = fresh Two 1 (1 ∷ 1 ∷ []) input13
+
+-- A clause's first atom at a, as it stands or denied
+abbrev source : ℕ → ℕ → Source
+source c g = record { clause = c; number = 1; sign = g; instance = a }
+
+-- P(a) decided, with a ≤ 5 behind it
+abbrev brought13 : Trail
+brought13 = background (at-most 1 5) (some (source 1 1)) ∷ foreground (plain 1 1) (decided 1 1 true a 1) ∷ []
+
+abbrev reached13 : Trail → State
+reached13 t = record { version = Two; arities = 1 ∷ 1 ∷ []; trail = t; input = input13; learned = []; constants = 1; level = 1; conflict = none }
+
+-- Q(a) decided, with a ≥ 6 behind it
+abbrev at-least-6 : Trail
+at-least-6 = background (at-least 1 6) (some (source 2 1)) ∷ foreground (plain 2 1) (decided 2 1 true a 1) ∷ []
+
+abbrev pub bringing : List Example
+bringing =
+    Admits 1 (1 ∷ 1 ∷ []) input13 ∷
+    -- The literal, then the atom with its source; the decision keeps that it brought one.
+    Runs begun13 (tried (Decide 1 1 1 a (source 1 1 ∷ [])) 0 2 1 ∷ []) (reached13 brought13) ∷
+    -- An atom that is on the trail is refused by 11, and so is its denial, 0 − a ≤ −6, whether it comes as clause 1's denied or as clause 2's.
+    Runs (reached13 brought13) (tried (Decide 2 1 1 a (source 1 1 ∷ [])) 11 2 1 ∷ tried (Decide 2 1 1 a (source 1 0 ∷ [])) 11 2 1 ∷ tried (Decide 2 1 1 a (source 2 1 ∷ [])) 11 2 1 ∷ []) (reached13 brought13) ∷
+    -- .. also where it is brought before by the same Decide.
+    Runs begun13 (tried (Decide 1 1 1 a (source 1 1 ∷ source 1 1 ∷ [])) 11 0 0 ∷ tried (Decide 1 1 1 a (source 1 1 ∷ source 1 0 ∷ [])) 11 0 0 ∷ []) begun13 ∷
+    -- Denied, clause 2's atom is a ≤ 5.
+    Runs begun13 (tried (Decide 2 1 0 a (source 2 0 ∷ [])) 0 2 1 ∷ []) (reached13 (background (at-most 1 5) (some (source 2 0)) ∷ foreground (denied 2 1) (decided 2 1 false a 1) ∷ [])) ∷
+    -- The atoms are tested with the trail's: a ≤ 4 is not on it, nor its denial, but is not possible with a ≥ 6.
+    Runs begun13 (tried (Decide 2 1 1 a (source 2 1 ∷ [])) 0 2 1 ∷ tried (Decide 1 1 1 a (source 3 1 ∷ [])) 13 2 1 ∷ []) (reached13 at-least-6) ∷
+    -- Two atoms follow the literal in the order named.
+    Runs begun13 (tried (Decide 1 1 1 a (source 1 1 ∷ source 3 1 ∷ [])) 0 3 1 ∷ [])
+    (reached13 (background (at-most 1 4) (some (source 3 1)) ∷ background (at-most 1 5) (some (source 1 1)) ∷ foreground (plain 1 1) (decided 1 1 true a 2) ∷ [])) ∷
+    -- An atom number, a sign and a clause that are not there
+    Runs begun13
+    (tried (Decide 1 1 1 a (record { clause = 1; number = 2; sign = 1; instance = a } ∷ [])) 10 0 0 ∷ tried (Decide 1 1 1 a (source 1 2 ∷ [])) 4 0 0 ∷ tried (Decide 1 1 1 a (source 4 1 ∷ [])) 10 0 0 ∷ []) begun13 ∷
+    -- In version 1 a Decide's atoms are not looked at.
+    Runs (fresh One 1 (1 ∷ 1 ∷ []) input13) (tried (Decide 1 1 1 a (source 1 2 ∷ source 9 1 ∷ [])) 0 1 1 ∷ [])
+    (record { version = One; arities = 1 ∷ 1 ∷ []; trail = foreground (plain 1 1) (decided 1 1 true a 0) ∷ []; input = input13; learned = []; constants = 1; level = 1; conflict = none }) ∷
+    []
+
+abbrev pub BringingExamples : Type 0
+BringingExamples = (x : Example) → List·Memᴰ x bringing → Shown x

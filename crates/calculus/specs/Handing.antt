@@ -1,4 +1,5 @@
--- What a step hands on beside its answer. The request "Show the numbers behind a yes": "Accepted Propagate, Conflict and Backtrack hand these on."
+-- What a step hands on beside its answer. The request "Show the numbers behind a yes": "Accepted Propagate, Conflict and Backtrack hand these on";
+-- and from "Decisions that bring bounds" on Decide, "which hands on numbers".
 use mathlib.Core.Path.{_≡_}
 use mathlib.Core.List.{List, [], _∷_}
 use mathlib.Core.Option.{Option, none, some}
@@ -9,6 +10,7 @@ use lib.IntN.{ℤ, pos, negℤ}
 use Rattle.basis.specs.Choices.{NumbersOf}
 use Rattle.basis.specs.Refusals.{accepted}
 use Rattle.basis.specs.declared.Atom.{Atom}
+use Rattle.basis.specs.declared.Version.the-variants.{One}
 use Rattle.calculus.specs.Admission.{fresh}
 use Rattle.calculus.specs.Clauses.{Clause}
 use Rattle.calculus.specs.Rules.{question}
@@ -17,7 +19,7 @@ use Rattle.calculus.specs.States.{State, Step, Propagate, Decide, Confli
 -- The rules that put their question to the constraint test
 abbrev pub tests : Step → Bool
 tests (Propagate c l τ) = true
-tests (Decide c l g τ) = false
+tests (Decide c l g τ zs) = true
 tests (Conflict c τ) = true
 tests (Resolve l) = false
 tests (Factorize i j) = false
@@ -41,4 +43,4 @@ HandsOn s x number h = Hands (eqb number accepted && tests x) (s .constants) (qu
 abbrev pub FirstHands : Type 0
 FirstHands =
     let atLeastTwo : Clause = record { variables = 1; atoms = record { p = 0; q = 1; c = negℤ (pos 2) } ∷ []; literals = record { positive = true; predicate = 1; x = 1; y = 0; z = 0 } ∷ [] } in
-    HandsOn (fresh 2 (1 ∷ []) (atLeastTwo ∷ [])) (Propagate 1 1 (1 ∷ [])) accepted (some (pos 2 ∷ pos 3 ∷ []))
+    HandsOn (fresh One 2 (1 ∷ []) (atLeastTwo ∷ [])) (Propagate 1 1 (1 ∷ [])) accepted (some (pos 2 ∷ pos 3 ∷ []))

@@ -1,7 +1,7 @@
 -- Runs: steps given one after the other, refused ones among them; where they begin; and the run that demand 3 gives again.
 use mathlib.Core.Path.{_≡_}
 use mathlib.Core.List.{List, List·Memᴰ, [], _∷_, reverse}
-use mathlib.Core.Option.{none}
+use mathlib.Core.Option.{none, some}
 use mathlib.Core.Bool.{cond}
 use Prim.Native.Nat.{_≤_, zero}
 use lib.ListN.{length}
@@ -11,7 +11,7 @@ use Rattle.basis.specs.Refusals.{accepted}
 use Rattle.calculus.specs.Admission.{Admitted, fresh}
 use Rattle.calculus.specs.Class.{InClass, Limited}
 use Rattle.calculus.specs.Clauses.{Clause}
-use Rattle.calculus.specs.Trails.{Origin, propagated, decided, foreground, background, Trail}
+use Rattle.calculus.specs.Trails.{Origin, Source, propagated, decided, foreground, background, Trail}
 use Rattle.calculus.specs.States.{State, Step, Propagate, Decide, updated}
 use Rattle.calculus.specs.Conditions.{Judged}
 use Rattle.calculus.specs.Rules.{Answer, Reply}
@@ -49,7 +49,7 @@ restarted s = updated s [] zero none
 
 -- Where a run may begin: admitted input clauses, learned clauses of the class and within the limits, nothing on the trail, no conflict.
 pub record Start (s : State) : Type 0 where
-  pub admitted : Admitted (fresh (s .constants) (s .arities) (s .input))
+  pub admitted : Admitted (fresh (s .version) (s .constants) (s .arities) (s .input))
   pub few-learned : length (s .learned) ≤ mostLearned
   pub in-class : (C : Clause) → List·Memᴰ C (s .learned) → InClass (s .arities) C
   pub limited : (C : Clause) → List·Memᴰ C (s .learned) → Limited C
@@ -80,16 +80,20 @@ AnswersOnce J = (o : J .Over) (x : Step) (a b : Reply (J .Over)) → J .Gives o 
 abbrev pub AnswersAll : Judge → Type 0
 AnswersAll J = (o : J .Over) → Reached J o → (x : Step) → (a : Reply (J .Over)) × J .Gives o x a
 
--- The one Propagate or Decide behind a foreground entry
-abbrev pub stepOf : Origin → Step
-stepOf (propagated c l τ) = Propagate c l τ
-stepOf (decided c l b τ) = Decide c l (cond b 1 0) τ
+-- The one Propagate or Decide behind a foreground entry; "Demand 3 replays a decision with its atoms": the atoms brought that stand behind it
+abbrev pub stepOf : Origin → List Source → Step
+stepOf (propagated c l τ) zs = Propagate c l τ
+stepOf (decided c l b τ n) zs = Decide c l (cond b 1 0) τ zs
 
--- Those behind the foreground entries of a trail, that of the last entry first
+-- Those behind the foreground entries of a trail, that of the last entry first, where the atoms brought that stand behind the trail are `zs`
+abbrev pub stepsBefore : List Source → Trail → List Step
+stepsBefore zs [] = []
+stepsBefore zs (foreground l o ∷ t) = stepOf o zs ∷ stepsBefore [] t
+stepsBefore zs (background a none ∷ t) = stepsBefore zs t
+stepsBefore zs (background a (some z) ∷ t) = stepsBefore (z ∷ zs) t
+
 abbrev pub stepsOf : Trail → List Step
-stepsOf [] = []
-stepsOf (foreground l o ∷ t) = stepOf o ∷ stepsOf t
-stepsOf (background a ∷ t) = stepsOf t
+stepsOf t = stepsBefore [] t
 
 -- "Give, left to right, the one Propagate or Decide behind each foreground entry of the final trail."
 abbrev pub replayed : Trail → List Step

@@ -1,32 +1,32 @@
 -- What every state reached has, and soundness and replay over the rules, with the numbers as a parameter: the demands of the code rest on them.
--- Proved in proofs/Sound.antt.
+-- Proved in proofs/Sound.antt and proofs/Intact.antt.
 use mathlib.Core.Path.{_≡_}
-use mathlib.Core.List.{List, [], _∷_, List·Memᴰ}
+use mathlib.Core.List.{List, [], _++_, _∷_, List·Memᴰ}
 use mathlib.Core.Option.{none, some}
-use mathlib.Core.Bool.{not}
-use Prim.Native.Nat.{_≤_}
+use mathlib.Core.Bool.{Bool, not}
+use Prim.Native.Nat.{ℕ, _≤_}
 use lib.Dec.{T}
 use lib.ListN.{length}
 use Rattle.basis.specs.Limits.{mostConstants, mostEntries, mostLearned}
 use Rattle.basis.specs.declared.Literal.{Literal}
-use Rattle.basis.specs.Refusals.{keptNotPossible}
+use Rattle.basis.specs.Refusals.{keptNotPossible, notPossible}
 use Rattle.basis.specs.Numbers.{Numbers}
 use Rattle.basis.specs.Atoms.{Possible}
 use Rattle.calculus.specs.Clauses.{Clause, Instanced, ground}
-use Rattle.calculus.specs.Trails.{foreground, background, Trail, atomOnTrail, undefined, isFalse, decisions, atomsOf}
+use Rattle.calculus.specs.Trails.{Origin, Source, foreground, background, decided, Trail, atomOnTrail, undefined, isFalse, decisions, atomsOf}
 use Rattle.calculus.specs.Class.{InClass, Limited}
-use Rattle.calculus.specs.States.{State, Step}
+use Rattle.calculus.specs.States.{Decide, State, Step, clauses}
 use Rattle.calculus.specs.Admission.{Admitted}
 use Rattle.calculus.specs.Truth.{Follows, NoModel}
-use Rattle.calculus.specs.Conditions.{Judged}
-use Rattle.calculus.specs.Rules.{Answer}
+use Rattle.calculus.specs.Conditions.{Allowed, Judged}
+use Rattle.calculus.specs.Rules.{Answer, broughtAt, decidedTrail, isOne}
 use Rattle.calculus.specs.Runs.{Judge, Run, AcceptedRun, Reached, Start, plain, replayed, restarted}
 
 -- "No atom of either kind twice on the trail": each entry is new to those before it.
 abbrev pub Once : Trail → Type 0
 Once [] = Unit {0}
 Once (foreground l o ∷ t) = T (undefined t l) × Once t
-Once (background a ∷ t) = T (not (atomOnTrail a t)) × Once t
+Once (background a o ∷ t) = T (not (atomOnTrail a t)) × Once t
 
 -- "Every state reached has: no atom of either kind twice on the trail, trail atoms possible, each learned clause true wherever the input
 -- is, and within the clause class"; besides, it is within the limits, the level is the number of decisions, and a conflict's literals are
@@ -55,6 +55,30 @@ abbrev pub SoundJudge : Numbers → Judge → Type 1
 SoundJudge N J = (s₀ : State) (o : J .Over) (xs : List Step) (K : Instanced) → SoundStart N s₀ → Run J (J .start s₀) xs o → J .state o .conflict ≡ some K → K .clause .literals ≡ []
     → NoModel N (s₀ .arities) (s₀ .input)
 
+-- What comes next is a foreground entry, or nothing. A trail has its last entry first.
+pub data NextForeground : Trail → Type 0 where
+  nothing : NextForeground []
+  entry : (later : Trail) (l : Literal) (o : Origin) → NextForeground (later ++ (foreground l o ∷ []))
+
+-- A decision on a trail to which the steps lead from s₀, between what stands later and what stands earlier; it keeps that it brought n atoms.
+pub record DecisionIntact (N : Numbers) (s₀ : State) (xs : List Step) (later earlier : Trail) (l : Literal) (c i : ℕ) (b : Bool) (τ : List ℕ) (n : ℕ) : Type 0 where
+  -- Its Decide is one of the steps, was accepted with this trail before it, and named these atoms.
+  pub before : List Step
+  pub after : List Step
+  pub sign : ℕ
+  pub offered : List Source
+  pub given : xs ≡ before ++ (Decide c i sign τ offered ∷ after)
+  pub asked : State
+  pub run : Run (plain N) s₀ before asked
+  pub stood : asked .trail ≡ earlier
+  pub allowed : Allowed N asked (Decide c i sign τ offered)
+  pub with-sign : isOne sign ≡ b
+  -- They follow it in order, so many as it keeps, and then comes a foreground entry or nothing.
+  pub as-many : length (broughtAt asked offered) ≡ n
+  pub next-on : Trail
+  pub next-foreground : NextForeground next-on
+  pub follow : later ++ (foreground l (decided c i b τ n) ∷ earlier) ≡ next-on ++ decidedTrail (clauses asked) c i b τ (broughtAt asked offered) earlier
+
 module _ (N : Numbers) where
   -- What every state reached has
   abbrev pub EveryStateReached : Type 1
@@ -73,6 +97,17 @@ module _ (N : Numbers) where
   -- Started again, the steps behind the trail's foreground entries are each accepted and lead to the same state.
   abbrev pub Replays : Type 0
   Replays = (s : State) → Reached (plain N) s → s .conflict ≡ none → AcceptedRun (plain N) (restarted s) (replayed (s .trail)) s
+
+  -- Where no conflict stands, the entries from a decision to the next foreground one are exactly the atoms that its Decide named, in order.
+  abbrev pub DecisionsIntact : Type 0
+  DecisionsIntact = (s₀ s : State) (xs : List Step) → Start s₀ → Run (plain N) s₀ xs s → s .conflict ≡ none
+      → (later earlier : Trail) (l : Literal) (c i : ℕ) (b : Bool) (τ : List ℕ) (n : ℕ) → s .trail ≡ later ++ (foreground l (decided c i b τ n) ∷ earlier)
+      → DecisionIntact N s₀ xs later earlier l c i b τ n
+
+  -- A decision that brings no atoms is never refused by 13: the trail's atoms are possible. So version 1 decides as it did.
+  abbrev pub NoneBroughtNever13 : Type 0
+  NoneBroughtNever13 = (s : State) → Reached (plain N) s → (c l g : ℕ) (τ : List ℕ) (zs : List Source) → broughtAt s zs ≡ []
+      → (a : Answer) → Judged N s (Decide c l g τ zs) a → ¬ (a .number ≡ notPossible)
 
   -- Refusal 17 is never given.
   abbrev pub Never17 : Type 0

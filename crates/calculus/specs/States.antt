@@ -4,12 +4,14 @@ use mathlib.Core.Option.{Option, none, some}
 use mathlib.Core.Bool.{Bool, true, false}
 use Prim.Native.Nat.{ℕ, _-_}
 use lib.ListN.{getD}
+use Rattle.basis.specs.declared.Version.{Version}
 use Rattle.calculus.specs.Clauses.{Clause, Instanced, noClause, noInstanced}
-use Rattle.calculus.specs.Trails.{Trail}
+use Rattle.calculus.specs.Trails.{Source, Trail}
 
 -- "A state is predicates with arities, trail, input clauses, learned clauses, constants, level k, and a conflict (clause with instance)
--- or none." Predicate n has the nth arity.
+-- or none." Predicate n has the nth arity. A state knows its version.
 pub record State : Type 0 where
+  pub version : Version
   pub arities : List ℕ
   pub trail : Trail
   pub input : List Clause
@@ -18,10 +20,11 @@ pub record State : Type 0 where
   pub level : ℕ
   pub conflict : Option Instanced
 
--- One proposed step: a rule with its arguments in the paper's order, or a rule number that is none of the eight.
+-- One proposed step: a rule with its arguments in the paper's order, or a rule number that is none of the eight. A Decide ends with the atoms
+-- that it brings.
 pub data Step : Type 0 where
   Propagate : (clause literal : ℕ) (instance : List ℕ) → Step
-  Decide : (clause literal sign : ℕ) (instance : List ℕ) → Step
+  Decide : (clause literal sign : ℕ) (instance : List ℕ) (atoms : List Source) → Step
   Conflict : (clause : ℕ) (instance : List ℕ) → Step
   Resolve : (literal : ℕ) → Step
   Factorize : (literal other : ℕ) → Step
@@ -47,4 +50,4 @@ conflictOf (some N) = N
 
 -- The state with another trail, level and conflict
 abbrev pub updated : State → Trail → ℕ → Option Instanced → State
-updated s t k c = record { arities = s .arities; trail = t; input = s .input; learned = s .learned; constants = s .constants; level = k; conflict = c }
+updated s t k c = record { version = s .version; arities = s .arities; trail = t; input = s .input; learned = s .learned; constants = s .constants; level = k; conflict = c }
