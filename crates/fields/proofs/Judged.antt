@@ -1,7 +1,7 @@
 -- Each judged field, where it passes and where it is refused.
 use mathlib.Core.Path.{_∙_, _≡_, ap, fun-ext, refl, sym}
 use mathlib.Core.List.{List, [], _∷_}
-use mathlib.Core.Bool.{Bool, _&&_, and-comm, and-eq-true-iff, and-true, false, true}
+use mathlib.Core.Bool.{Bool, _&&_, and-comm, and-eq-true-iff, and-false, and-true, false, true}
 use Prim.Native.Nat.{_+_, _-_, _<_, _≤_, suc, zero, ℕ}
 use native.Mathlib.Omega.{arith}
 use lib.Dec.{eqb, leb, ltb}
@@ -11,14 +11,15 @@ use mir.Facts.{toZ-ofZ, toZ-pos}
 use mir.Syntax.{w32}
 use mir.Val.{SFits, ofZ, toZ}
 use borrow.Author.Needs.{sfits-of}
-use borrow.Author.Tests.{eq-eqb, le-leb, le-ltb, leb-true, lt-leb, lt-ltb, ne-eqb}
+use borrow.Author.Tests.{le-leb, le-ltb, leb-true, lt-leb, lt-ltb, ne-eqb}
 use Rattle.basis.specs.Limits.{mostC}
 use Rattle.basis.specs.Refusals.{aboveLimit, accepted, outOfRange, wrongMark}
+use Rattle.basis.specs.declared.Version.the-variants.{One, Two}
 use Rattle.fields.specs.Views.{Told, after, ranged, refusedFrom, viewed}
 use Rattle.fields.specs.declared.Cursor.{Cursor}
 use Rattle.calculus.specs.Checks.{_or_, between}
-use Rattle.fields.proofs.Laws.{and-give, held, refused, told-blank, told-of, told-refused, told-view}
-use Rattle.runfile.specs.File.{byte, constant, count, mostSteps, number, second, signedOf, stepCount, version, within}
+use Rattle.fields.proofs.Laws.{and-give, blank-through, held, refused, told-blank, told-of, told-refused, told-view}
+use Rattle.runfile.specs.File.{byte, constant, count, mostSteps, number, second, signedOf, stepCount, version, versionOf, within}
 use Rattle.runfile.specs.Readers.{Reader, _judged_, _then_, give}
 
 module _ {A : Type 0} (f : Reader A) (ok : A → Bool) (n : ℕ) (s : List ℕ) (c₀ c₁ : Cursor) (x : A) (e : viewed c₁ x ≡ after c₀ (f s)) where
@@ -54,13 +55,28 @@ module _ (s : List ℕ) (c : Cursor) where
     pub second-any : ¬ (p ≡ 0) → after c (within 0 v s) ≡ after c (second v p s)
     second-any h = alike (between 0 v) (λ q. leb q v && leb 1 (p + q)) outOfRange (λ q. rw (le-leb 0 q (omega arith), le-leb 1 (p + q) (omega (arith, h))) (sym (and-true (leb q v))))
 
+neither : (v : ℕ) → ¬ (v ≡ 1) → ¬ (v ≡ 2) → between 1 2 v ≡ false
+neither zero h k = refl
+neither (suc v) h k = rw (lt-leb (suc v) 2 (omega (arith, h, k))) (and-false (leb 1 (suc v)))
+
+module _ (s : List ℕ) (c₀ c₁ : Cursor) (v : ℕ) (t : Told 0 c₁ v (after c₀ (number 2 s))) where
+  version-held : between 1 2 v ≡ true → Told One c₁ (versionOf v) (after c₀ (version s))
+  version-held h =
+      told-of (and-give c₀ c₁ v s (number 2 judged λ n. between 1 2 n or wrongMark ∷ []) versionOf (one-held (number 2) (between 1 2) wrongMark s c₀ c₁ v (told-view t) h))
+      (blank-through c₁ 0 v One (versionOf v) (told-blank t) (λ z. rw z))
+
+  pub version-one : v ≡ 1 → Told One c₁ One (after c₀ (version s))
+  version-one h = rw h at (version-held (rw h))
+
+  pub version-two : v ≡ 2 → Told One c₁ Two (after c₀ (version s))
+  version-two h = rw h at (version-held (rw h))
+
+  pub version-refused : ¬ (v ≡ 1) → ¬ (v ≡ 2) → Told One (refusedFrom c₀ c₁ wrongMark) One (after c₀ (version s))
+  version-refused h k =
+      told-refused (and-give c₀ (refusedFrom c₀ c₁ wrongMark) 1 s (number 2 judged λ n. between 1 2 n or wrongMark ∷ []) versionOf
+      (one-refused (number 2) (between 1 2) wrongMark s c₀ c₁ v (told-view t) 1 (neither v h k) refl))
+
 module _ (s : List ℕ) (c₀ c₁ : Cursor) (v : ℕ) (e : viewed c₁ v ≡ after c₀ (number 2 s)) where
-  pub version-held : v ≡ 1 → viewed c₁ 1 ≡ after c₀ (version s)
-  version-held h = rw h at (one-held (number 2) (λ n. eqb n 1) wrongMark s c₀ c₁ v e (eq-eqb v 1 h))
-
-  pub version-refused : ¬ (v ≡ 1) → viewed (refusedFrom c₀ c₁ wrongMark) 1 ≡ after c₀ (version s)
-  version-refused h = one-refused (number 2) (λ n. eqb n 1) wrongMark s c₀ c₁ v e 1 (ne-eqb v 1 h) refl
-
   pub steps-held : v ≤ mostSteps → viewed c₁ v ≡ after c₀ (stepCount s)
   steps-held h = one-held (number 2) (λ n. leb n mostSteps) aboveLimit s c₀ c₁ v e (le-leb v mostSteps h)
 

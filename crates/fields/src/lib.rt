@@ -6,6 +6,7 @@ ghost use lib.Dec.{leb};
 ghost use lib.IntN.{pos};
 ghost use lib.ListN.{length, take, drop};
 ghost use Rattle.lists.specs.Lists.{sameList};
+ghost use Rattle.basis.specs.declared.Version.the-variants.{One};
 ghost use Rattle.calculus.specs.Checks.{between};
 ghost use Rattle.runfile.specs.Readers.{field};
 ghost use Rattle.runfile.specs.File.{littleEndian, number, byte, count, within, second, constant, rule, letters, mark, version, mostSteps, stepCount};
@@ -14,6 +15,7 @@ use basis::ABOVE_LIMIT;
 use basis::ENDS_INSIDE;
 use basis::OUT_OF_RANGE;
 use basis::UNKNOWN_RULE;
+use basis::Version;
 use basis::WRONG_MARK;
 
 // "The number of steps (16 bits, at most 2,000)"
@@ -34,6 +36,12 @@ pub struct Byte {
 // A number of two or four bytes
 pub struct Wide {
     pub value: u32,
+    pub at: Cursor,
+}
+
+// A version, and the cursor after it
+pub struct VersionRead {
+    pub version: Version,
     pub at: Cursor,
 }
 
@@ -239,15 +247,29 @@ pub fn step_count_at(s: &[u8], at: Cursor) -> Wide
 }
 
 // The version
-pub fn version_at(s: &[u8], at: Cursor) -> Cursor
-    ensures { λ r. ⌜ viewed r 1 ≡ after at (version (now (s .entry))) ⌝ }
+pub fn version_at(s: &[u8], at: Cursor) -> VersionRead
+    ensures { λ r. ⌜ Told One (r .at) (r .version) (after at (version (now (s .entry)))) ⌝ }
 {
     let read = number_at(s, at, 2);
     let end = read.at;
+    let first = Version::One;
     if read.value == 1 {
-        return end;
+        return VersionRead {
+            version: first,
+            at: end,
+        };
     }
-    refuse(at, end, WRONG_MARK)
+    if read.value == 2 {
+        let second = Version::Two;
+        return VersionRead {
+            version: second,
+            at: end,
+        };
+    }
+    VersionRead {
+        version: first,
+        at: refuse(at, end, WRONG_MARK),
+    }
 }
 
 // Whether the bytes b stand in s from i on.

@@ -14,6 +14,7 @@ use Rattle.basis.specs.Atoms.{noAtom}
 use Rattle.basis.specs.Limits.{mostArguments, mostAtoms, mostConstants, mostInput, mostLiterals, mostPredicates, mostVariables}
 use Rattle.basis.specs.declared.Atom.{Atom}
 use Rattle.basis.specs.declared.Literal.{Literal}
+use Rattle.basis.specs.declared.Version.{Version}
 use Rattle.lists.proofs.Arrays.{exactly-take}
 use Rattle.lists.proofs.Tests.{T→eq, and-l, and-r}
 use Rattle.lists.specs.Lists.{allOf}
@@ -68,19 +69,19 @@ module _ (s : List ℕ) where
       (leads-give (λ l. record { variables = v; atoms = az; literals = l }) (leads c₄ c₅ ls (times m (literal arities v)) e₅)))))
 
   -- From what stands before the clauses, the clauses and the number of steps make the header.
-  pub front-parts : (c₀ c₁ c₂ c₃ c₄ c₅ c₆ : Cursor) (k n : ℕ) (arities : List ℕ) (m : ℕ)
-      → viewed c₁ letters ≡ after c₀ (mark s) → viewed c₂ 1 ≡ after c₁ (version s) → viewed c₃ k ≡ after c₂ (count mostConstants s)
+  pub front-parts : (c₀ c₁ c₂ c₃ c₄ c₅ c₆ : Cursor) (v : Version) (k n : ℕ) (arities : List ℕ) (m : ℕ)
+      → viewed c₁ letters ≡ after c₀ (mark s) → viewed c₂ v ≡ after c₁ (version s) → viewed c₃ k ≡ after c₂ (count mostConstants s)
       → viewed c₄ n ≡ after c₃ (count mostPredicates s) → viewed c₅ arities ≡ after c₄ (times n (count mostArguments) s) → viewed c₆ m ≡ after c₅ (count mostInput s)
-      → after c₆ (fromClauses k arities m s) ≡ after c₀ (header s)
+      → after c₆ (fromClauses v k arities m s) ≡ after c₀ (header s)
   unfolding header
-  front-parts c₀ c₁ c₂ c₃ c₄ c₅ c₆ k n arities m e₁ e₂ e₃ e₄ e₅ e₆ =
+  front-parts c₀ c₁ c₂ c₃ c₄ c₅ c₆ v k n arities m e₁ e₂ e₃ e₄ e₅ e₆ =
       sym whole ∙ all .so
     where
       rest : Got Header
-      rest = after c₆ (fromClauses k arities m s)
+      rest = after c₆ (fromClauses v k arities m s)
 
       blank : Header
-      blank = record { constants = k; arities = arities; input = []; count = 0 }
+      blank = record { version = v; constants = k; arities = arities; input = []; count = 0 }
 
       whole : viewed (reached rest) (given blank rest) ≡ rest
       whole = told-view (record { cursor = refl; value = refl })
@@ -88,16 +89,16 @@ module _ (s : List ℕ) where
       all : Leads c₀ (reached rest) (given blank rest) s header
       all =
           leads-then _ (leads c₀ c₁ letters mark e₁)
-          (leads-then _ (leads c₁ c₂ 1 version e₂)
+          (leads-then _ (leads c₁ c₂ v version e₂)
           (leads-then _ (leads c₂ c₃ k (count mostConstants) e₃)
           (leads-then _ (leads c₃ c₄ n (count mostPredicates) e₄)
           (leads-then _ (leads c₄ c₅ arities (times n (count mostArguments)) e₅)
-          (leads-then _ (leads c₅ c₆ m (count mostInput) e₆) (leads c₆ (reached rest) (given blank rest) (fromClauses k arities m) whole))))))
+          (leads-then _ (leads c₅ c₆ m (count mostInput) e₆) (leads c₆ (reached rest) (given blank rest) (fromClauses v k arities m) whole))))))
 
-  pub rest-parts : (k : ℕ) (arities : List ℕ) (m : ℕ) (c₀ c₁ c₂ : Cursor) (cs : List Clause) (t : ℕ) → viewed c₁ cs ≡ after c₀ (times m (clause arities) s) → viewed c₂ t ≡ after c₁ (stepCount s)
-      → Leads c₀ c₂ (record { constants = k; arities = arities; input = cs; count = t }) s (fromClauses k arities m)
-  rest-parts k arities m c₀ c₁ c₂ cs t e₁ e₂ =
-      leads-then _ (leads c₀ c₁ cs (times m (clause arities)) e₁) (leads-give (λ z. record { constants = k; arities = arities; input = cs; count = z }) (leads c₁ c₂ t stepCount e₂))
+  pub rest-parts : (v : Version) (k : ℕ) (arities : List ℕ) (m : ℕ) (c₀ c₁ c₂ : Cursor) (cs : List Clause) (t : ℕ) → viewed c₁ cs ≡ after c₀ (times m (clause arities) s) → viewed c₂ t ≡ after c₁ (stepCount s)
+      → Leads c₀ c₂ (record { version = v; constants = k; arities = arities; input = cs; count = t }) s (fromClauses v k arities m)
+  rest-parts v k arities m c₀ c₁ c₂ cs t e₁ e₂ =
+      leads-then _ (leads c₀ c₁ cs (times m (clause arities)) e₁) (leads-give (λ z. record { version = v; constants = k; arities = arities; input = cs; count = z }) (leads c₁ c₂ t stepCount e₂))
 
 -- ---- arities
 

@@ -7,6 +7,7 @@ use native.Mathlib.Omega.{arith}
 use lib.ListN.{length, replicate, set, take}
 use lib.Seq.{take-suc-set}
 use Rattle.basis.specs.Limits.{mostClauses, mostPredicates}
+use Rattle.basis.specs.declared.Version.the-variants.{One}
 use Rattle.lists.proofs.Arrays.{exactly-none}
 use Rattle.lists.specs.Arrays.{exactly}
 use Rattle.header.specs.Records.{Fronts, Padded, arities, inputOf, packedHeader}
@@ -55,10 +56,10 @@ padded-is ps h = sym (rw (arities-count ps h, sym (h .filled)))
 module _ (s : List ℕ) (r : Front) (f : Fronts s r) (c₁ c₂ : Cursor) (t : ℕ) (e₂ : viewed c₂ t ≡ after c₁ (stepCount s)) where
   module _ (cs : List Clause) (e₁ : viewed c₁ cs ≡ after (r .at) (times (r .input) (clause (arities (r .predicates))) s)) where
     abbrev said : Header
-    said = record { constants = r .constants; arities = arities (r .predicates); input = cs; count = t }
+    said = record { version = r .version; constants = r .constants; arities = arities (r .predicates); input = cs; count = t }
 
     whole-is : (c : Cursor) → c₂ ≡ c → header s 0 ≡ viewed c said
-    whole-is c z = sym (f .rest) ∙ sym (rest-parts s (r .constants) (arities (r .predicates)) (r .input) (r .at) c₁ c₂ cs t e₁ e₂ .so) ∙ ap (λ (d : Cursor). viewed d said) z
+    whole-is c z = sym (f .rest) ∙ sym (rest-parts s (r .version) (r .constants) (arities (r .predicates)) (r .input) (r .at) c₁ c₂ cs t e₁ e₂ .so) ∙ ap (λ (d : Cursor). viewed d said) z
 
     input-count : (place : ℕ) → c₂ ≡ C.At place → length cs ≡ r .input
     input-count place z = by (r .at) c₁ e₁ (sym (ap (λ (d : Cursor). viewed d t) z) ∙ e₂)
@@ -88,11 +89,11 @@ module _ (s : List ℕ) (r : Front) (f : Fronts s r) (c₁ c₂ : Cursor) (t : �
     judged = told-view (record { cursor = e₁; value = refl })
 
     pub header-read : (place : ℕ) → c₂ ≡ C.At place
-        → record { constants = r .constants; predicates = r .predicates; input = r .input; steps = t; at = C.At place } ≡ packedHeader (header s 0)
+        → record { version = r .version; constants = r .constants; predicates = r .predicates; input = r .input; steps = t; at = C.At place } ≡ packedHeader (header s 0)
     header-read place z = sym (ap packedHeader (whole-is cs judged (C.At place) z) ∙ rw (input-count cs judged place z, sym (padded-is (r .predicates) (f .padded))))
 
     pub header-refused : (number place : ℕ) → c₂ ≡ C.Refused number place → packedHeader (bad number place) ≡ packedHeader (header s 0)
     header-refused number place z = sym (ap packedHeader (whole-is cs judged (C.Refused number place) z))
 
-pub no-header-is : (n p : ℕ) → record { constants = 0; predicates = record { count = 0; arities = replicate mostPredicates 0 }; input = 0; steps = 0; at = C.Refused n p } ≡ packedHeader (bad n p)
+pub no-header-is : (n p : ℕ) → record { version = One; constants = 0; predicates = record { count = 0; arities = replicate mostPredicates 0 }; input = 0; steps = 0; at = C.Refused n p } ≡ packedHeader (bad n p)
 no-header-is n p = rw (exactly-none {A = ℕ} 0 mostPredicates)

@@ -4,6 +4,7 @@ use mathlib.Core.List.{List, []}
 use Prim.Native.Nat.{ℕ, _≤_}
 use lib.ListN.{length, take}
 use Rattle.basis.specs.Limits.{mostInput, mostPredicates}
+use Rattle.basis.specs.declared.Version.the-variants.{One}
 use Rattle.lists.specs.Arrays.{exactly}
 use Rattle.calculus.specs.Clauses.{Clause}
 use Rattle.runfile.specs.Readers.{Got, got, bad}
@@ -27,7 +28,7 @@ pub record Padded (ps : Predicates) : Type 0 where
 pub record Fronts (s : List ℕ) (r : Front) : Type 0 where
   pub few : r .input ≤ mostInput
   pub padded : Padded (r .predicates)
-  pub rest : after (r .at) (fromClauses (r .constants) (arities (r .predicates)) (r .input) s) ≡ header s 0
+  pub rest : after (r .at) (fromClauses (r .version) (r .constants) (arities (r .predicates)) (r .input) s) ≡ header s 0
 
 -- The input clauses of a header that is read; none where it is refused
 abbrev pub inputOf : Got Header → List Clause
@@ -37,6 +38,7 @@ inputOf (bad n p) = []
 -- The record of a header that is read; blank where it is refused
 abbrev pub packedHeader : Got Header → HeaderRead
 packedHeader (got h next) = record {
+  version = h .version;
   constants = h .constants;
   predicates = record { count = length (h .arities); arities = exactly mostPredicates 0 (h .arities) };
   input = length (h .input);
@@ -44,6 +46,7 @@ packedHeader (got h next) = record {
   at = C.At next;
 }
 packedHeader (bad n p) = record {
+  version = One;
   constants = 0;
   predicates = record { count = 0; arities = exactly mostPredicates 0 [] };
   input = 0;

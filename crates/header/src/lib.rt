@@ -1,4 +1,4 @@
-// Reading what stands before the first step of a run file: constants, predicates with arities, input clauses, the number of steps.
+// Reading what stands before the first step of a run file: its version, constants, predicates with arities, input clauses, the number of steps.
 ghost use mathlib.Core.List.{map};
 ghost use mathlib.Core.Path.{_≡_};
 ghost use Prim.Native.Nat.{_≤_};
@@ -23,6 +23,7 @@ use basis::MOST_INPUT;
 use basis::MOST_LITERALS;
 use basis::MOST_PREDICATES;
 use basis::MOST_VARIABLES;
+use basis::Version;
 use clauses::Clause;
 use clauses::no_atom;
 use clauses::no_clause;
@@ -76,6 +77,7 @@ struct ClauseRead {
 
 // What stands before the input clauses, their number included, and the cursor there
 struct Front {
+    version: Version,
     constants: u8,
     predicates: Predicates,
     input: u8,
@@ -84,6 +86,7 @@ struct Front {
 
 // What stands before the first step but the clauses themselves, and the cursor there; blank where the file is refused before.
 pub struct HeaderRead {
+    pub version: Version,
     pub constants: u8,
     pub predicates: Predicates,
     pub input: u8,
@@ -304,7 +307,8 @@ fn front_at(s: &[u8]) -> Front
 {
     let start = Cursor::At { place: 0 };
     let past_mark = mark_at(s, start);
-    let past_version = version_at(s, past_mark);
+    let version = version_at(s, past_mark);
+    let past_version = version.at;
     let constants = count_at(s, past_version, MOST_CONSTANTS);
     let past_constants = constants.at;
     let n = count_at(s, past_constants, MOST_PREDICATES);
@@ -314,7 +318,9 @@ fn front_at(s: &[u8]) -> Front
     let predicates = ps.predicates;
     let m = count_at(s, past_ps, MOST_INPUT);
     let past_m = m.at;
+    let of = version.version;
     Front {
+        version: of,
         constants: constants.value,
         predicates: predicates,
         input: m.value,
@@ -327,7 +333,9 @@ pub fn no_header(number: u8, place: usize) -> HeaderRead
     ensures { λ r. ⌜ r ≡ packedHeader (bad number place) ⌝ }
 {
     let slots = [0u8; MOST_PREDICATES];
+    let first = Version::One;
     HeaderRead {
+        version: first,
         constants: 0,
         predicates: Predicates {
             count: 0,
@@ -352,8 +360,10 @@ pub fn read_header(s: &[u8]) -> HeaderRead
     let past = clauses_end(s, begin, front.input, predicates);
     let t = step_count_at(s, past);
     let end = t.at;
+    let version = front.version;
     match end {
         Cursor::At { place } => HeaderRead {
+            version: version,
             constants: front.constants,
             predicates: predicates,
             input: front.input,

@@ -1,6 +1,6 @@
 -- What is written is read back: each reading, where the bytes written for a value stand, gives that value.
 use mathlib.Core.Path.{_∙_, _≡_, ap, refl, sym}
-use mathlib.Core.List.{List, List·Memᴰ·head, List·Memᴰ·tail, append-nil, List·Memᴰ, List·Memᴰ·head, List·Memᴰ·tail, [], _++_, _∷_, append-assoc, append-nil}
+use mathlib.Core.List.{List, List·Memᴰ, List·Memᴰ·head, List·Memᴰ·tail, [], _++_, _∷_, append-assoc, append-nil}
 use mathlib.Core.Option.{none}
 use mathlib.Core.Bool.{Bool, _&&_, cond, false, true}
 use Prim.Native.Nat.{_+_, _-_, _<_, _≤_, suc, zero, ℕ}
@@ -8,26 +8,31 @@ use native.Mathlib.Omega.{arith}
 use lib.Dec.{T, eqb, eqb→eq, leb, leb→le, le→leb}
 use lib.IntN.{negsuc, negℤ, pos, ℤ}
 use lib.ListN.{drop, length, length-append, length-drop, take}
-use lib.Seq.{drop-append-seam, take-append-seam, drop-drop, take-append-seam, take-nil}
+use lib.Seq.{drop-append-seam, drop-drop, take-append-seam, take-nil}
 use lib.Signed.{leZ}
 use borrow.Author.Tests.{le-leb, le-ltb, lt-ltb}
-use Rattle.basis.specs.Limits.{mostArguments, mostAtoms, mostC, mostConstants, mostInput, mostLiterals, mostPredicates, mostVariables}
+use Rattle.basis.specs.Limits.{mostArguments, mostAtoms, mostBrought, mostC, mostConstants, mostInput, mostLiterals, mostPredicates, mostVariables}
 use Rattle.basis.specs.Numbers.{whole}
 use Rattle.basis.specs.Refusals.{aboveLimit, endsInside, outOfRange, unknownRule, wrongMark}
+use Rattle.basis.specs.Versions.{formOf, versionNumber}
 use Rattle.basis.specs.declared.Atom.{Atom}
+use Rattle.basis.specs.declared.Form.{Form}
 use Rattle.basis.specs.declared.Literal.{Literal}
+use Rattle.basis.specs.declared.Version.{Version}
+use Rattle.basis.specs.declared.Version.the-variants.{One, Two}
 use Rattle.lists.proofs.Members.{allOf-out}
 use Rattle.lists.proofs.Tests.{and-i, and-l, and-r}
 use Rattle.lists.specs.Lists.{allOf, sameList}
-use Rattle.runfile.specs.Claims.{ReadBack, Sayable, StepHeld}
-use Rattle.runfile.specs.File.{count, clause, instance, File, argument, atom, byte, classChecks, clause, constant, file, header, instance, letters, literal, littleEndian, mostSteps, number, ruled, signedOf, step, within}
+use Rattle.runfile.specs.Claims.{BroughtHeld, ReadBack, Sayable, StepHeld}
+use Rattle.runfile.specs.File.{File, argument, atom, byte, classChecks, clause, constant, count, file, header, instance, letters, literal, littleEndian, mostFile, mostSteps, number, ruled, signedOf, source, sources, step, version, versionOf, wholeFile, within}
 use Rattle.runfile.specs.Readers.{Reader, _judged_, _then_, bad, field, give, got, onward, times}
-use Rattle.runfile.specs.Written.{bytesOf, headerWith, joined, unsigned, written, writtenArgument, writtenAtom, writtenClause, writtenHeader, writtenInstance, writtenLiteral, writtenStep}
+use Rattle.runfile.specs.Written.{bytesOf, headerWith, joined, unsigned, written, writtenArgument, writtenAtom, writtenClause, writtenHeader, writtenInstance, writtenLiteral, writtenSource, writtenSources, writtenStep}
 use Rattle.calculus.proofs.Admitting.{clause-accepted-exactly}
 use Rattle.calculus.specs.Checks.{Check, _or_, between}
 use Rattle.calculus.specs.Class.{InClass, Limited, arityOf, properAtom, properLiteral}
 use Rattle.calculus.specs.Clauses.{Clause, arguments}
 use Rattle.calculus.specs.States.{Backtrack, Conflict, Decide, Factorize, Grow, Propagate, Resolve, Skip, Step, Unknown}
+use Rattle.calculus.specs.Trails.{Source}
 use Rattle.runfile.proofs.Given.{Passes, allChecks, argumentFits, clean, inRange, passes-all}
 use Rattle.runfile.proofs.Joined.{joined-last}
 
@@ -219,48 +224,79 @@ back-instance τ h =
 back-rule : (r : ℕ) → T (between 1 8 r) → Back (byte judged (λ rule. between 1 8 rule or unknownRule ∷ [])) (r ∷ []) r
 back-rule r h = back-judged (λ rule. between 1 8 rule or unknownRule ∷ []) (back-byte r) (h, tt)
 
-back-step : (x : Step) → StepHeld x → Back step (writtenStep x) x
+back-sign : (g : ℕ) → g ≤ 1 → Back (within 0 1) (g ∷ []) g
+back-sign g h = back-within 0 1 g (and-i (leb 0 g) (leb g 1) (le→leb 0 g (omega arith)) (le→leb g 1 h))
+
+back-source : (z : Source) → z .sign ≤ 1 → length (z .instance) ≤ mostVariables → Back source (writtenSource z) z
+unfolding source
+back-source z h k =
+    back-then _ (back-byte (z .clause)) (back-then _ (back-byte (z .number)) (back-then _ (back-sign (z .sign) h)
+    (back-last (λ τ. record { clause = z .clause; number = z .number; sign = z .sign; instance = τ }) (back-instance (z .instance) k))))
+
+back-sources : (f : Form) (zs : List Source) → BroughtHeld (f .brings) zs → Back (sources f) (writtenSources f zs) zs
+unfolding sources writtenSources
+back-sources f zs = by (f .brings)
+  where
+    by : (b : Bool) → BroughtHeld b zs → Back (cond b (count mostBrought then λ n. times n source) (give [])) (cond b (length zs ∷ joined writtenSource zs) []) zs
+    by true h =
+        back-then (λ n. times n source) (back-count mostBrought (length zs) (h .few))
+        (back-times source writtenSource zs (λ z m. back-source z (h .signs z m) (h .instances z m)))
+    by false h = rw h (back-none [])
+
+back-step : (f : Form) (x : Step) → StepHeld (f .brings) x → Back (step f) (writtenStep f x) x
 unfolding step ruled writtenStep
-back-step (Propagate c l τ) h = back-then ruled (back-rule 1 tt) (back-then _ (back-byte c) (back-then _ (back-byte l) (back-last (Propagate c l) (back-instance τ h))))
-back-step (Decide c l g τ) h =
-    back-then ruled (back-rule 2 tt) (back-then _ (back-byte c) (back-then _ (back-byte l)
-    (back-then _ (back-within 0 1 g (and-i (leb 0 g) (leb g 1) (le→leb 0 g (omega arith)) (le→leb g 1 (h .0)))) (back-last (Decide c l g) (back-instance τ (h .1))))))
-back-step (Conflict c τ) h = back-then ruled (back-rule 3 tt) (back-then _ (back-byte c) (back-last (Conflict c) (back-instance τ h)))
-back-step (Resolve l) h = back-then ruled (back-rule 4 tt) (back-last Resolve (back-byte l))
-back-step (Factorize l m) h = back-then ruled (back-rule 5 tt) (back-then _ (back-byte l) (back-last (Factorize l) (back-byte m)))
-back-step Skip h = back-then ruled (back-rule 6 tt) (back-none Skip)
-back-step (Backtrack l) h = back-then ruled (back-rule 7 tt) (back-last Backtrack (back-byte l))
-back-step (Grow n) h = back-then ruled (back-rule 8 tt) (back-last Grow (back-byte n))
-back-step (Unknown r) h = absurd h
+back-step f (Propagate c l τ) h = back-then (ruled f) (back-rule 1 tt) (back-then _ (back-byte c) (back-then _ (back-byte l) (back-last (Propagate c l) (back-instance τ h))))
+back-step f (Decide c l g τ zs) h =
+    back-then (ruled f) (back-rule 2 tt) (back-then _ (back-byte c) (back-then _ (back-byte l)
+    (back-then _ (back-sign g (h .0)) (back-then _ (back-instance τ (h .1)) (back-last (Decide c l g τ) (back-sources f zs (h .2)))))))
+back-step f (Conflict c τ) h = back-then (ruled f) (back-rule 3 tt) (back-then _ (back-byte c) (back-last (Conflict c) (back-instance τ h)))
+back-step f (Resolve l) h = back-then (ruled f) (back-rule 4 tt) (back-last Resolve (back-byte l))
+back-step f (Factorize l m) h = back-then (ruled f) (back-rule 5 tt) (back-then _ (back-byte l) (back-last (Factorize l) (back-byte m)))
+back-step f Skip h = back-then (ruled f) (back-rule 6 tt) (back-none Skip)
+back-step f (Backtrack l) h = back-then (ruled f) (back-rule 7 tt) (back-last Backtrack (back-byte l))
+back-step f (Grow n) h = back-then (ruled f) (back-rule 8 tt) (back-last Grow (back-byte n))
+back-step f (Unknown r) h = absurd h
 
 -- ---- the file
 
+version-of : (n : ℕ) → littleEndian (bytesOf 2 n) ≡ n → T (between 1 2 n) → Back version (bytesOf 2 n) (versionOf n)
+version-of n e h = back-last versionOf (back-judged (λ n. between 1 2 n or wrongMark ∷ []) (back-number (bytesOf 2 n) n (omega arith) e) (h, tt))
+
+back-version : (v : Version) → Back version (bytesOf 2 (versionNumber v)) v
+back-version One = version-of 1 refl tt
+back-version Two = version-of 2 refl tt
+
 back-header : (F : File) → Sayable F
-    → Back header (writtenHeader F) (record { constants = F .constants; arities = F .arities; input = F .input; count = length (F .steps) })
+    → Back header (writtenHeader F) (record { version = F .version; constants = F .constants; arities = F .arities; input = F .input; count = length (F .steps) })
 unfolding header headerWith
 back-header F h =
     let a = h .admitted in
     back-then _ (back-judged (λ b. sameList b letters or wrongMark ∷ []) (back-field letters (omega arith)) (tt, tt))
-    (back-then _ (back-judged (λ n. eqb n 1 or wrongMark ∷ []) (back-number (bytesOf 2 1) 1 (omega arith) refl) (tt, tt))
+    (back-then _ (back-version (F .version))
     (back-then _ (back-count mostConstants (F .constants) (a .few-constants))
     (back-then _ (back-count mostPredicates (length (F .arities)) (a .few-predicates))
     (back-then _ (rw (joined-bytes (F .arities)) at (back-times (count mostArguments) (λ v. v ∷ []) (F .arities) (λ n m. back-count mostArguments n (a .small-arities n m))))
     (back-then _ (back-count mostInput (length (F .input)) (a .few-clauses))
     (back-then _ (back-times (clause (F .arities)) (writtenClause (F .arities)) (F .input) (λ C m. back-clause (F .arities) C (a .in-class C m) (a .limited C m)))
-    (back-last (λ t. record { constants = F .constants; arities = F .arities; input = F .input; count = t })
+    (back-last (λ t. record { version = F .version; constants = F .constants; arities = F .arities; input = F .input; count = t })
     (back-judged (λ n. leb n mostSteps or aboveLimit ∷ [])
     (back-number (bytesOf 2 (length (F .steps))) (length (F .steps)) (omega arith) (back-2 (length (F .steps)) (omega (arith, h .few-steps))))
     (le→leb (length (F .steps)) mostSteps (h .few-steps), tt)))))))))
 
-pub read-back : ReadBack
-unfolding file
-read-back F h =
+whole-back : (F : File) → Sayable F → wholeFile (written F) 0 ≡ got F (length (written F))
+unfolding wholeFile
+whole-back F h =
+    let f = formOf (F .version) in
     let n = length (writtenHeader F) in
-    let xs = joined writtenStep (F .steps) in
+    let xs = joined (writtenStep f) (F .steps) in
     let from-zero : 0 + n ≡ n = omega arith in
     let head = back-header F h .back (written F) 0 xs refl in
     let past : drop (0 + n) (written F) ≡ xs ++ [] = ap (λ (k : ℕ). drop k (written F)) from-zero ∙ drop-append-seam (writtenHeader F) xs ∙ sym (append-nil xs) in
-    let steps = back-times step writtenStep (F .steps) (λ x m. back-step x (h .steps-held x m)) .back (written F) (0 + n) [] past in
+    let steps = back-times (step f) (writtenStep f) (F .steps) (λ x m. back-step f x (h .steps-held x m)) .back (written F) (0 + n) [] past in
     let all : length (written F) ≡ n + length xs = length-append (writtenHeader F) xs in
     let last : 0 + n + length xs ≡ length (written F) = omega arith in
     rw (head, steps, last, le-leb (length (written F)) (length (written F)) (omega arith))
+
+pub read-back : ReadBack
+unfolding file
+read-back F h short = rw (le-leb (length (written F)) mostFile short) (whole-back F h)

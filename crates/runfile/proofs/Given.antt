@@ -1,5 +1,6 @@
 -- What each reading gives: a value of which something is known and a place in the file, or a refusal. From the fields up to the file.
 use mathlib.Core.Path.{_∙_, _≡_, ap, refl}
+use mathlib.Core.Logic.{inl, inr}
 use mathlib.Core.List.{List, List·Memᴰ, List·Memᴰ·head, List·Memᴰ·not-nil, List·Memᴰ·tail, [], _++_, _∷_}
 use mathlib.Core.Bool.{Bool, _&&_, cond, false, true}
 use Prim.Native.Nat.{_+_, _<_, _≤_, suc, zero, ℕ}
@@ -9,14 +10,16 @@ use lib.IntN.{negℤ, pos, ℤ}
 use lib.ListN.{drop, length, length-append, length-drop, length-take, take}
 use lib.Seq.{drop-nil, take-nil}
 use lib.Signed.{leZ}
-use borrow.Author.Tests.{leb-false, le-leb, leb-false, leb-true, lt-leb}
-use Rattle.basis.specs.Limits.{mostArguments, mostAtoms, mostC, mostConstants, mostInput, mostLiterals, mostPredicates, mostVariables}
-use Rattle.basis.specs.Refusals.{aboveLimit, accepted, endsInside, outOfRange, surplus, unknownRule, wrongMark}
+use borrow.Author.Tests.{le-leb, leb-false, leb-true, lt-leb}
+use Rattle.basis.specs.Limits.{mostArguments, mostAtoms, mostBrought, mostC, mostConstants, mostInput, mostLiterals, mostPredicates, mostVariables}
+use Rattle.basis.specs.Refusals.{aboveLimit, accepted, endsInside, outOfRange, surplus, tooLong, unknownRule, wrongMark}
+use Rattle.basis.specs.Versions.{formOf}
+use Rattle.basis.specs.declared.Form.{Form}
 use Rattle.lists.proofs.Members.{allOf-in}
 use Rattle.lists.proofs.Tests.{T→eq, and-i, and-l, and-r}
 use Rattle.lists.specs.Lists.{allOf, sameList}
-use Rattle.runfile.specs.Claims.{EveryFile, Outcome, Refusal, Sayable, StepHeld}
-use Rattle.runfile.specs.File.{count, File, Header, argument, atom, byte, classChecks, clause, clauseFields, constant, end, file, header, instance, letters, literal, littleEndian, mark, mostSteps, number, ruled, second, signedOf, step, version, within}
+use Rattle.runfile.specs.Claims.{BroughtHeld, EveryFile, Outcome, Refusal, Sayable, StepHeld}
+use Rattle.runfile.specs.File.{count, File, Header, argument, atom, byte, classChecks, clause, clauseFields, constant, end, file, header, instance, letters, literal, littleEndian, mark, mostFile, mostSteps, number, ruled, second, signedOf, source, sources, step, version, versionOf, wholeFile, within}
 use Rattle.runfile.specs.Readers.{Got, Reader, _judged_, _then_, bad, field, give, got, onward, times}
 use Rattle.calculus.proofs.Admitting.{clause-accepted-exactly}
 use Rattle.calculus.specs.Admission.{Admitted, fresh}
@@ -24,6 +27,7 @@ use Rattle.calculus.specs.Checks.{Check, _or_, between, firstRefusal}
 use Rattle.calculus.specs.Class.{InClass, Limited, arityOf, properAtom, properLiteral, withinLimits}
 use Rattle.calculus.specs.Clauses.{Clause}
 use Rattle.calculus.specs.States.{Backtrack, Conflict, Decide, Factorize, Grow, Propagate, Resolve, Skip, Step}
+use Rattle.calculus.specs.Trails.{Source}
 
 -- From a place in the file: a value with P and a place in the file, or a refusal
 abbrev pub Gives : {A : Type 0} → (A → Type 0) → List ℕ → Got A → Type 0
@@ -95,7 +99,7 @@ module _ {A : Type 0} where
       on : (s : List ℕ) (i : ℕ) → i ≤ length s → (x : A) (j : ℕ) → P x × (j ≤ length s) → (n : ℕ) → firstRefusal (checks x) ≡ n
           → Gives (λ x. P x × Passes (checks x)) s (cond (eqb n accepted) (got x j) (bad n i))
       on s i h x j q zero e = ((q .0, clean (checks x) (k x) e), q .1)
-      on s i h x j q (suc n) e = rw (eqb·suc-zero n) (record { least = omega arith; most = omega (arith, of-table (checks x) (k x), e); in-file = h })
+      on s i h x j q (suc n) e = rw (eqb·suc-zero n) (record { in-table = inl (omega arith, omega (arith, of-table (checks x) (k x), e)); in-file = h })
 
       by : (s : List ℕ) (i : ℕ) → i ≤ length s → (y : Got A) → Gives P s y
           → Gives (λ x. P x × Passes (checks x)) s (onward y (λ x j. cond (eqb (firstRefusal (checks x)) accepted) (got x j) (bad (firstRefusal (checks x)) i)))
@@ -127,7 +131,7 @@ field-reads n = record { gives = λ s i h. by s i h (leb (i + n) (length s)) ref
     by : (s : List ℕ) (i : ℕ) → i ≤ length s → (b : Bool) → leb (i + n) (length s) ≡ b
         → Gives (λ l. length l ≡ n) s (cond b (got (take n (drop i s)) (i + n)) (bad endsInside i))
     by s i h true e = let k = leb-true (i + n) (length s) e in (simp (length-take, length-drop) (omega arith), k)
-    by s i h false e = record { least = omega arith; most = omega arith; in-file = h }
+    by s i h false e = record { in-table = inl (omega arith, omega arith); in-file = h }
 
 -- any number of bytes
 pub number-reads : (n : ℕ) → Reads (λ v. Unit {0}) (number n)
@@ -249,34 +253,66 @@ clause-reads arities =
 instance-reads : Reads (λ τ. length τ ≤ mostVariables) instance
 instance-reads = reads-then _ (count-reads mostVariables) (λ n hn. reads-weaker (reads-times n (number-reads 1)) (λ τ h. omega (arith, h .0)))
 
-ruled-reads : (r : ℕ) → Reads StepHeld (ruled r)
+-- What the file holds one atom of a Decide to
+abbrev SourceHeld : Source → Type 0
+SourceHeld z = (z .sign ≤ 1) × (length (z .instance) ≤ mostVariables)
+
+sign-held : (g : ℕ) → T (between 0 1 g) → g ≤ 1
+sign-held g h = leb→le g 1 (and-r (leb 0 g) (leb g 1) h)
+
+source-reads : Reads SourceHeld source
+unfolding source
+source-reads =
+    reads-then _ (number-reads 1) (λ c _.
+    reads-then _ (number-reads 1) (λ n _.
+    reads-then _ (within-reads 0 1) (λ g hg.
+    reads-give (λ τ. record { clause = c; number = n; sign = g; instance = τ }) instance-reads (λ τ h. (sign-held g hg, h)))))
+
+sources-read : (f : Form) → Reads (BroughtHeld (f .brings)) (sources f)
+unfolding sources
+sources-read f = by (f .brings)
+  where
+    by : (b : Bool) → Reads (BroughtHeld b) (cond b (count mostBrought then λ n. times n source) (give []))
+    by true = reads-then _ (count-reads mostBrought) (λ n hn.
+        reads-weaker (reads-times n source-reads) (λ zs h. record { few = omega (arith, h .0); signs = λ z m. h .1 z m .0; instances = λ z m. h .1 z m .1 }))
+    by false = reads-none [] refl
+
+ruled-reads : (f : Form) (r : ℕ) → Reads (StepHeld (f .brings)) (ruled f r)
 unfolding ruled
-ruled-reads r =
+ruled-reads f r =
     reads-either (eqb r 1) (reads-then _ (number-reads 1) (λ c _. reads-then _ (number-reads 1) (λ l _. reads-give (Propagate c l) instance-reads (λ τ h. h))))
-    (reads-either (eqb r 2) (reads-then _ (number-reads 1) (λ c _. reads-then _ (number-reads 1) (λ l _. reads-then _ (within-reads 0 1) (λ g hg. reads-give (Decide c l g) instance-reads (λ τ h. (leb→le g 1 (and-r (leb 0 g) (leb g 1) hg), h))))))
+    (reads-either (eqb r 2) (reads-then _ (number-reads 1) (λ c _. reads-then _ (number-reads 1) (λ l _. reads-then _ (within-reads 0 1) (λ g hg.
+    reads-then _ instance-reads (λ τ h. reads-give (Decide c l g τ) (sources-read f) (λ zs k. (sign-held g hg, h, k)))))))
     (reads-either (eqb r 3) (reads-then _ (number-reads 1) (λ c _. reads-give (Conflict c) instance-reads (λ τ h. h)))
     (reads-either (eqb r 4) (reads-give Resolve (number-reads 1) (λ l h. tt))
     (reads-either (eqb r 5) (reads-then _ (number-reads 1) (λ l _. reads-give (Factorize l) (number-reads 1) (λ m h. tt)))
     (reads-either (eqb r 6) (reads-none Skip tt)
     (reads-either (eqb r 7) (reads-give Backtrack (number-reads 1) (λ l h. tt)) (reads-give Grow (number-reads 1) (λ l h. tt))))))))
 
-pub step-reads : Reads StepHeld step
+pub step-reads : (f : Form) → Reads (StepHeld (f .brings)) (step f)
 unfolding step
-step-reads = reads-then ruled (reads-judged (λ r. between 1 8 r or unknownRule ∷ []) (λ r. tt) (number-reads 1)) (λ r h. ruled-reads r)
+step-reads f = reads-then (ruled f) (reads-judged (λ r. between 1 8 r or unknownRule ∷ []) (λ r. tt) (number-reads 1)) (λ r h. ruled-reads f r)
 
 -- ---- the file
 
-pub header-reads : Reads (λ h. Admitted (fresh (h .constants) (h .arities) (h .input)) × (h .count ≤ mostSteps)) header
+-- What is known of a header that is read
+abbrev HeaderHeld : Header → Type 0
+HeaderHeld h = Admitted (fresh (h .version) (h .constants) (h .arities) (h .input)) × (h .count ≤ mostSteps)
+
+version-reads : Reads (λ v. Unit {0}) version
+version-reads = reads-give versionOf (reads-judged (λ n. between 1 2 n or wrongMark ∷ []) (λ n. tt) (number-reads 2)) (λ n h. tt)
+
+pub header-reads : Reads HeaderHeld header
 unfolding header
 header-reads =
     reads-then _ (reads-judged (λ b. sameList b letters or wrongMark ∷ []) (λ b. tt) (field-reads 3)) (λ mark _.
-    reads-then _ (reads-judged (λ n. eqb n 1 or wrongMark ∷ []) (λ n. tt) (number-reads 2)) (λ version _.
+    reads-then _ version-reads (λ version _.
     reads-then _ (count-reads mostConstants) (λ constants hk.
     reads-then _ (count-reads mostPredicates) (λ n hn.
     reads-then _ (reads-times n (count-reads mostArguments)) (λ arities ha.
     reads-then _ (count-reads mostInput) (λ m hm.
     reads-then _ (reads-times m (clause-reads arities)) (λ cs hc.
-    reads-give (λ t. record { constants = constants; arities = arities; input = cs; count = t }) (reads-judged (λ n. leb n mostSteps or aboveLimit ∷ []) (λ n. tt) (number-reads 2)) (λ t ht. (
+    reads-give (λ t. record { version = version; constants = constants; arities = arities; input = cs; count = t }) (reads-judged (λ n. leb n mostSteps or aboveLimit ∷ []) (λ n. tt) (number-reads 2)) (λ t ht. (
       record {
         few-constants = hk;
         few-predicates = omega (arith, ha .0);
@@ -295,19 +331,30 @@ end-at s F i h k = by (leb (length s) i) refl
   where
     by : (b : Bool) → leb (length s) i ≡ b → Outcome s (onward (cond b (got (tt {0}) i) (bad surplus i)) (λ _ j. got F j))
     by true e = let z = leb-true (length s) i e in (h, omega arith)
-    by false e = record { least = omega arith; most = omega arith; in-file = k }
+    by false e = record { in-table = inl (omega arith, omega arith); in-file = k }
 
-pub every-file : EveryFile
-unfolding file
-every-file s = from (header s zero) (header-reads .gives s zero (omega arith))
+abbrev saying : Header → List Step → File
+saying h xs = record { version = h .version; constants = h .constants; arities = h .arities; input = h .input; steps = xs }
+
+whole-given : (s : List ℕ) → Outcome s (wholeFile s zero)
+unfolding wholeFile
+whole-given s = from (header s zero) (header-reads .gives s zero (omega arith))
   where
-    last : (h : Header) → Admitted (fresh (h .constants) (h .arities) (h .input)) × (h .count ≤ mostSteps) → (g : Got (List Step))
-        → Gives (λ xs. (length xs ≡ h .count) × ((x : Step) → List·Memᴰ x xs → StepHeld x)) s g
-        → Outcome s (onward g (λ xs j. onward (end s j) (λ _ k. got (record { constants = h .constants; arities = h .arities; input = h .input; steps = xs }) k)))
+    last : (h : Header) → HeaderHeld h → (g : Got (List Step))
+        → Gives (λ xs. (length xs ≡ h .count) × ((x : Step) → List·Memᴰ x xs → StepHeld (formOf (h .version) .brings) x)) s g
+        → Outcome s (onward g (λ xs j. onward (end s j) (λ _ k. got (saying h xs) k)))
     last h a (got xs j) q = end-at s _ j (record { admitted = a .0; few-steps = omega (arith, q .0 .0, a .1); steps-held = q .0 .1 }) (q .1)
     last h a (bad n p) q = q
 
-    from : (g : Got Header) → Gives (λ h. Admitted (fresh (h .constants) (h .arities) (h .input)) × (h .count ≤ mostSteps)) s g
-        → Outcome s (onward g (λ h i. onward (times (h .count) step s i) (λ xs j. onward (end s j) (λ _ k. got (record { constants = h .constants; arities = h .arities; input = h .input; steps = xs }) k))))
-    from (got h i) q = last h (q .0) (times (h .count) step s i) (reads-times (h .count) step-reads .gives s i (q .1))
+    from : (g : Got Header) → Gives HeaderHeld s g
+        → Outcome s (onward g (λ h i. onward (times (h .count) (step (formOf (h .version))) s i) (λ xs j. onward (end s j) (λ _ k. got (saying h xs) k))))
+    from (got h i) q = last h (q .0) (times (h .count) (step (formOf (h .version))) s i) (reads-times (h .count) (step-reads (formOf (h .version))) .gives s i (q .1))
     from (bad n p) q = q
+
+pub every-file : EveryFile
+unfolding file
+every-file s = by (leb (length s) mostFile) refl
+  where
+    by : (b : Bool) → leb (length s) mostFile ≡ b → Outcome s (cond b (wholeFile s zero) (bad tooLong mostFile))
+    by true e = whole-given s
+    by false e = let z = leb-false (length s) mostFile e in record { in-table = inr refl; in-file = omega arith }

@@ -1,41 +1,42 @@
--- A good file of the greatest length: 48 full clauses and 2,000 Decides with a full instance. With a byte more it is read otherwise.
+-- A good file of the greatest length: 163 Decides, each with a full instance and 24 atoms with full instances. With a byte more it is too long.
 use mathlib.Core.Path.{_∙_, _≡_, ap, refl, subst, sym}
 use mathlib.Core.List.{List, List·Memᴰ, List·Memᴰ·head, List·Memᴰ·not-nil, List·Memᴰ·tail, [], _++_, _∷_}
-use mathlib.Core.Bool.{true}
 use Prim.Native.Nat.{_+_, _*_, suc, zero, ℕ}
 use native.Mathlib.Omega.{arith}
-use lib.IntN.{pos}
 use lib.ListN.{length, length-append, length-replicate, replicate}
 use lib.Seq.{take-at}
-use Rattle.basis.specs.Limits.{mostInput, mostLiterals, mostPredicates, mostVariables}
-use Rattle.basis.specs.declared.Atom.{Atom}
-use Rattle.calculus.proofs.Admitting.{clause-accepted-exactly}
-use Rattle.calculus.specs.Clauses.{Clause}
+use Rattle.basis.specs.Limits.{mostBrought, mostVariables}
+use Rattle.basis.specs.Versions.{formOf}
+use Rattle.basis.specs.declared.Version.the-variants.{Two}
 use Rattle.calculus.specs.States.{Decide, Step}
-use Rattle.runfile.specs.Claims.{FewerDoNot, LongestFile, Outcome, Sayable, mostClauseBytes, mostFile, mostStepBytes}
-use Rattle.runfile.specs.File.{File, file, mostSteps}
+use Rattle.calculus.specs.Trails.{Source}
+use Rattle.runfile.specs.Claims.{FewerDoNot, LongestFile, Outcome, Sayable}
+use Rattle.runfile.specs.File.{File, file, mostFile}
 use Rattle.runfile.specs.Readers.{got}
-use Rattle.runfile.specs.Written.{headerWith, joined, written, writtenClause, writtenStep}
+use Rattle.runfile.specs.Written.{headerWith, joined, written, writtenSources, writtenStep}
 use Rattle.runfile.proofs.Back.{read-back}
-use Rattle.runfile.proofs.Given.{every-file}
-use Rattle.runfile.proofs.Short.{good-files-short}
+use Rattle.runfile.proofs.Given.{every-file, no-value}
+use Rattle.runfile.proofs.Short.{long-files-refused}
 
--- x ≤ 0 and x ≥ 0 for each variable x up to n
-abbrev bothBounds : ℕ → List Atom
-bothBounds zero = []
-bothBounds (suc n) = record { p = suc n; q = 0; c = pos 0 } ∷ record { p = 0; q = suc n; c = pos 0 } ∷ bothBounds n
+abbrev fullInstance : List ℕ
+fullInstance = replicate mostVariables 1
 
-abbrev fullClause : Clause
-fullClause = record { variables = mostVariables; atoms = bothBounds mostVariables; literals = replicate mostLiterals (record { positive = true; predicate = 1; x = 1; y = 1; z = 1 }) }
+abbrev fullSource : Source
+fullSource = record { clause = 1; number = 1; sign = 1; instance = fullInstance }
 
+-- 402 bytes: the rule number, clause, literal, sign and instance, and a count and 24 atoms of 16 bytes
 abbrev fullStep : Step
-fullStep = Decide 1 1 1 (replicate mostVariables 1)
+fullStep = Decide 1 1 1 fullInstance (replicate mostBrought fullSource)
 
-abbrev fullArities : List ℕ
-fullArities = replicate mostPredicates 3
+-- 10 bytes and 163 times 402
+abbrev steps : ℕ
+steps = 163
+
+abbrev deciding : List Step → File
+deciding xs = record { version = Two; constants = 0; arities = []; input = []; steps = xs }
 
 abbrev fullFile : File
-fullFile = record { constants = 0; arities = fullArities; input = replicate mostInput fullClause; steps = replicate mostSteps fullStep }
+fullFile = deciding (replicate steps fullStep)
 
 -- ---- what is so in it
 
@@ -50,52 +51,50 @@ module _ {A : Type 0} where
   length-joined w (suc n) x = length-append (w x) (joined w (replicate n x)) ∙ omega (arith, length-joined w n x)
 
 full-sayable : Sayable fullFile
-full-sayable =
-    let (in-class, limited) = clause-accepted-exactly fullArities fullClause .0 refl in
+full-sayable = record {
+  admitted = record {
+    few-constants = omega arith;
+    few-predicates = omega arith;
+    small-arities = λ n m. absurd (List·Memᴰ·not-nil m);
+    few-clauses = omega arith;
+    in-class = λ C m. absurd (List·Memᴰ·not-nil m);
+    limited = λ C m. absurd (List·Memᴰ·not-nil m);
+    new = refl;
+  };
+  few-steps = omega (arith, length-replicate steps fullStep);
+  steps-held = λ x m. rw (same-member steps fullStep m) (
+    omega arith,
+    omega arith,
     record {
-      admitted = record {
-        few-constants = omega arith;
-        few-predicates = omega arith;
-        small-arities = λ n m. omega (arith, same-member mostPredicates 3 m);
-        few-clauses = omega (arith, length-replicate mostInput fullClause);
-        in-class = λ C m. rw (same-member mostInput fullClause m) in-class;
-        limited = λ C m. rw (same-member mostInput fullClause m) limited;
-        new = refl;
-      };
-      few-steps = omega (arith, length-replicate mostSteps fullStep);
-      steps-held = λ x m. rw (same-member mostSteps fullStep m) (omega arith, omega arith);
-    }
+      few = omega (arith, length-replicate mostBrought fullSource);
+      signs = λ z k. rw (same-member mostBrought fullSource k) (omega arith);
+      instances = λ z k. rw (same-member mostBrought fullSource k) (omega arith);
+    },
+  );
+}
 
 -- ---- how long it is
 
-length-clause : length (writtenClause fullArities fullClause) ≡ mostClauseBytes
-unfolding writtenClause
-length-clause = refl
-
-length-step : length (writtenStep fullStep) ≡ mostStepBytes
-unfolding writtenStep
+length-step : length (writtenStep (formOf Two) fullStep) ≡ 402
+unfolding writtenStep writtenSources
 length-step = refl
 
--- What is written beside clauses and steps are 18 bytes.
-length-written : (cs : List Clause) (xs : List Step)
-    → length (written (record { constants = 0; arities = fullArities; input = cs; steps = xs })) ≡ 18 + length (joined (writtenClause fullArities) cs) + length (joined writtenStep xs)
+length-written : (xs : List Step) → length (written (deciding xs)) ≡ 10 + length (joined (writtenStep (formOf Two)) xs)
 unfolding headerWith
-length-written cs xs = simp length-append (omega arith)
+length-written xs = simp length-append (omega arith)
 
 full-length : length (written fullFile) ≡ mostFile
-full-length =
-    length-written (replicate mostInput fullClause) (replicate mostSteps fullStep)
-    ∙ omega (arith, length-joined (writtenClause fullArities) mostInput fullClause, length-clause, length-joined writtenStep mostSteps fullStep, length-step)
+full-length = length-written (replicate steps fullStep) ∙ omega (arith, length-joined (writtenStep (formOf Two)) steps fullStep, length-step)
 
 -- ---- the theorems
 
 pub longest-file : LongestFile
-longest-file = (written fullFile, fullFile, read-back fullFile full-sayable ∙ ap (got fullFile) full-length)
+longest-file = (written fullFile, fullFile, refl, read-back fullFile full-sayable (omega (arith, full-length)) ∙ ap (got fullFile) full-length)
 
 pub fewer-do-not : FewerDoNot
 fewer-do-not alike =
-    let (s, F, e) = longest-file in
+    let (s, F, v, e) = longest-file in
     let whole : length s ≡ mostFile = sym (subst (Outcome s) e (every-file s) .1) in
     let more = s ++ (0 ∷ []) in
-    let e′ : file more ≡ got F mostFile = sym (alike more) ∙ ap file (take-at s (0 ∷ []) mostFile whole) ∙ e in
-    omega (arith, whole, length-append s (0 ∷ []), good-files-short more F mostFile e′)
+    let good : file more ≡ got F mostFile = sym (alike more) ∙ ap file (take-at s (0 ∷ []) mostFile whole) ∙ e in
+    no-value (sym (long-files-refused more (omega (arith, whole, length-append s (0 ∷ [])))) ∙ good)

@@ -1,39 +1,54 @@
 -- What every file gives, that a file that is written is read back, and how much of a file has to be read. Proved in proofs/Given.antt,
 -- proofs/Back.antt, proofs/Short.antt and proofs/Longest.antt.
 use mathlib.Core.Path.{_≡_}
-use mathlib.Core.List.{List, List·Memᴰ}
-use Prim.Native.Nat.{ℕ, _+_, _*_, _≤_, _<_}
+use mathlib.Core.Logic.{_⊎_}
+use mathlib.Core.List.{List, List·Memᴰ, []}
+use mathlib.Core.Bool.{Bool, true, false}
+use Prim.Native.Nat.{ℕ, _+_, _≤_, _<_}
 use lib.ListN.{length, take}
-use Rattle.basis.specs.Limits.{mostVariables, mostAtoms, mostLiterals, mostInput, mostPredicates, mostArguments}
-use Rattle.basis.specs.Refusals.{endsInside, surplus}
+use Rattle.basis.specs.Limits.{mostVariables, mostBrought}
+use Rattle.basis.specs.Refusals.{endsInside, surplus, tooLong}
+use Rattle.basis.specs.Versions.{formOf}
+use Rattle.basis.specs.declared.Version.the-variants.{Two}
 use Rattle.calculus.specs.Admission.{Admitted}
 use Rattle.calculus.specs.States.{Step, Propagate, Decide, Conflict, Resolve, Factorize, Skip, Backtrack, Grow, Unknown}
+use Rattle.calculus.specs.Trails.{Source}
 use Rattle.runfile.specs.Readers.{Got, got, bad}
-use Rattle.runfile.specs.File.{mostSteps, File, file, opened}
+use Rattle.runfile.specs.File.{mostFile, mostSteps, File, file, opened}
 use Rattle.runfile.specs.Written.{written}
 
--- What the file holds steps to: one of the eight rules, a Decide sign of 0 or 1, an instance of at most 12 constants
-abbrev pub StepHeld : Step → Type 0
-StepHeld (Propagate c l τ) = length τ ≤ mostVariables
-StepHeld (Decide c l sign τ) = (sign ≤ 1) × (length τ ≤ mostVariables)
-StepHeld (Conflict c τ) = length τ ≤ mostVariables
-StepHeld (Resolve l) = Unit {0}
-StepHeld (Factorize l m) = Unit {0}
-StepHeld Skip = Unit {0}
-StepHeld (Backtrack l) = Unit {0}
-StepHeld (Grow n) = Unit {0}
-StepHeld (Unknown rule) = ⊥
+-- What the file holds the atoms of a Decide to: at most 24, a sign of 0 or 1 each, an instance of at most 12 constants
+pub record SourcesHeld (zs : List Source) : Type 0 where
+  pub few : length zs ≤ mostBrought
+  pub signs : (z : Source) → List·Memᴰ z zs → z .sign ≤ 1
+  pub instances : (z : Source) → List·Memᴰ z zs → length (z .instance) ≤ mostVariables
+
+-- .. and to none where decisions bring none
+abbrev pub BroughtHeld : Bool → List Source → Type 0
+BroughtHeld true zs = SourcesHeld zs
+BroughtHeld false zs = zs ≡ []
+
+-- What the file holds steps to: one of the eight rules, a Decide sign of 0 or 1, an instance of at most 12 constants, and the atoms brought
+abbrev pub StepHeld : (brings : Bool) → Step → Type 0
+StepHeld brings (Propagate c l τ) = length τ ≤ mostVariables
+StepHeld brings (Decide c l sign τ zs) = (sign ≤ 1) × (length τ ≤ mostVariables) × BroughtHeld brings zs
+StepHeld brings (Conflict c τ) = length τ ≤ mostVariables
+StepHeld brings (Resolve l) = Unit {0}
+StepHeld brings (Factorize l m) = Unit {0}
+StepHeld brings Skip = Unit {0}
+StepHeld brings (Backtrack l) = Unit {0}
+StepHeld brings (Grow n) = Unit {0}
+StepHeld brings (Unknown rule) = ⊥
 
 -- What a file can say: an admitted state, and at most 2,000 steps held to the above
 pub record Sayable (F : File) : Type 0 where
   pub admitted : Admitted (opened F)
   pub few-steps : length (F .steps) ≤ mostSteps
-  pub steps-held : (x : Step) → List·Memᴰ x (F .steps) → StepHeld x
+  pub steps-held : (x : Step) → List·Memᴰ x (F .steps) → StepHeld (formOf (F .version) .brings) x
 
--- A refusal of a file: a number of the table from 1 to 8, and a place in the file or at its end
+-- A refusal of a file: a number of the table from 1 to 8 or 22, and a place in the file or at its end
 pub record Refusal (s : List ℕ) (number place : ℕ) : Type 0 where
-  pub least : endsInside ≤ number
-  pub most : number ≤ surplus
+  pub in-table : ((endsInside ≤ number) × (number ≤ surplus)) ⊎ (number ≡ tooLong)
   pub in-file : place ≤ length s
 
 -- A file is read to its last byte and says an admitted state with its steps, or it is refused.
@@ -45,45 +60,33 @@ Outcome s (bad number place) = Refusal s number place
 abbrev pub EveryFile : Type 0
 EveryFile = (s : List ℕ) → Outcome s (file s)
 
--- What can be said is read back from what is written for it.
+-- What can be said in 65,536 bytes is read back from what is written for it.
 abbrev pub ReadBack : Type 0
-ReadBack = (F : File) → Sayable F → file (written F) ≡ got F (length (written F))
+ReadBack = (F : File) → Sayable F → length (written F) ≤ mostFile → file (written F) ≡ got F (length (written F))
 
 -- ---- how long a good file can be
 
--- A clause: three counts, its atoms (p, q and the four bytes of c), and its literals (sign, predicate and arguments)
-abbrev pub mostClauseBytes : ℕ
-mostClauseBytes = 3 + mostAtoms * 6 + mostLiterals * (2 + mostArguments)
-
--- A step: none is longer than Decide, which has its rule number, clause, literal, sign, and the count and constants of an instance
-abbrev pub mostStepBytes : ℕ
-mostStepBytes = 5 + mostVariables
-
--- Mark and version; the constants; predicates and an arity each; input clauses and each; the number of steps and each
-abbrev pub mostFile : ℕ
-mostFile = 3 + 2 + 1 + (1 + mostPredicates) + (1 + mostInput * mostClauseBytes) + (2 + mostSteps * mostStepBytes)
-
--- 42,994 bytes
-abbrev pub MostFileCounted : Type 0
-MostFileCounted = mostFile ≡ 42994
-
--- "A valid file is below 65,536 bytes": it is below 42,995.
+-- "From version 2 on a valid file may have up to 65,536 bytes": none has more ..
 abbrev pub GoodFilesShort : Type 0
 GoodFilesShort = (s : List ℕ) (F : File) (next : ℕ) → file s ≡ got F next → length s ≤ mostFile
 
--- .. and some good file has all 42,994.
+-- .. and some good file of version 2 has all of them: no clauses and 163 Decides, each with 24 atoms and full instances.
 abbrev pub LongestFile : Type 0
-LongestFile = (s : List ℕ) × (F : File) × (file s ≡ got F mostFile)
+LongestFile = (s : List ℕ) × (F : File) × (F .version ≡ Two) × (file s ≡ got F mostFile)
 
--- A file, good or bad, is read as its first bytes are, where these are more than a good file can have: they say the same, or are refused by the
--- same number at the same place ..
+-- A file above 65,536 bytes is refused by 22 at place 65,536, whatever is in it.
+abbrev pub LongFilesRefused : Type 0
+LongFilesRefused = (s : List ℕ) → mostFile < length s → file s ≡ bad tooLong mostFile
+
+-- Nothing is lost by reading no further: a file, good or bad, is read as its first bytes are, where these are more than a good file can have. They
+-- say the same, or are refused by the same number at the same place ..
 abbrev pub FirstBytesTell : Type 0
 FirstBytesTell = (N : ℕ) → mostFile < N → (s : List ℕ) → file (take N s) ≡ file s
 
--- .. but not as its first `mostFile` bytes: they may be a good file, and those after them its surplus.
+-- .. but not as its first 65,536: they may be a good file, and with those after them it is too long.
 abbrev pub FewerDoNot : Type 0
 FewerDoNot = ((s : List ℕ) → file (take mostFile s) ≡ file s) → ⊥
 
--- "The program reads no more" than 65,535 bytes: the constant `MOST_READ` of the programs.
+-- "Of any file the program reads one byte more and no further": the constant `MOST_READ` of the programs.
 abbrev pub mostRead : ℕ
-mostRead = 65535
+mostRead = mostFile + 1

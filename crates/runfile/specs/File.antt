@@ -1,4 +1,4 @@
--- The run file, from its first byte to its last. The paper's section "The run file", with refusals 1 to 8 and their places.
+-- The run file, from its first byte to its last. The paper's section "The run file", with refusals 1 to 8 and 22 and their places.
 use mathlib.Core.List.{List, [], _∷_}
 use mathlib.Core.Bool.{_&&_, cond}
 use Prim.Native.Nat.{ℕ, zero, _+_, _*_, _-_}
@@ -8,8 +8,12 @@ use lib.Dec.{eqb, leb, ltb}
 use lib.ListN.{length}
 use Rattle.basis.specs.declared.Atom.{Atom}
 use Rattle.basis.specs.declared.Literal.{Literal}
-use Rattle.basis.specs.Limits.{mostVariables, mostAtoms, mostLiterals, mostInput, mostPredicates, mostArguments, mostConstants, mostC}
-use Rattle.basis.specs.Refusals.{wrongMark, aboveLimit, outOfRange, occursNowhere, lacksBound, unknownRule, surplus}
+use Rattle.basis.specs.Limits.{mostVariables, mostAtoms, mostBrought, mostLiterals, mostInput, mostPredicates, mostArguments, mostConstants, mostC}
+use Rattle.basis.specs.Refusals.{wrongMark, aboveLimit, outOfRange, occursNowhere, lacksBound, unknownRule, surplus, tooLong}
+use Rattle.basis.specs.Versions.{formOf}
+use Rattle.basis.specs.declared.Form.{Form}
+use Rattle.basis.specs.declared.Version.{Version}
+use Rattle.basis.specs.declared.Version.the-variants.{One, Two}
 use Rattle.lists.specs.Lists.{upFrom, allOf, sameList}
 use Rattle.calculus.specs.Checks.{between, Check, _or_}
 use Rattle.calculus.specs.Clauses.{Clause}
@@ -17,6 +21,7 @@ use Rattle.calculus.specs.Merging.{occursIn}
 use Rattle.calculus.specs.Class.{arityOf, differencesBounded}
 use Rattle.calculus.specs.Admission.{fresh}
 use Rattle.calculus.specs.States.{State, Step, Propagate, Decide, Conflict, Resolve, Factorize, Skip, Backtrack, Grow}
+use Rattle.calculus.specs.Trails.{Source}
 use Rattle.runfile.specs.Readers.{Got, got, bad, Reader, _then_, give, _judged_, field, times}
 
 -- ---- numbers
@@ -101,11 +106,19 @@ clause arities = clauseFields arities judged classChecks
 abbrev pub instance : Reader (List ℕ)
 instance = count mostVariables then λ n. times n byte
 
--- The arguments of a rule "in the order above"
-unfoldable pub ruled : ℕ → Reader Step
-ruled r =
+-- "Each as clause, atom number, sign (1 as it stands, 0 denied), instance"
+unfoldable pub source : Reader Source
+source = byte then λ c. byte then λ n. within 0 1 then λ sign. instance then λ τ. give (record { clause = c; number = n; sign = sign; instance = τ })
+
+-- "File version 2: a Decide step ends with a count (at most 24) of atoms." "Version 1 decisions bring none."
+unfoldable pub sources : Form → Reader (List Source)
+sources f = cond (f .brings) (count mostBrought then λ n. times n source) (give [])
+
+-- The arguments of a rule "in the order above", as the file's version has them
+unfoldable pub ruled : Form → ℕ → Reader Step
+ruled f r =
     cond (eqb r 1) (byte then λ c. byte then λ l. instance then λ τ. give (Propagate c l τ))
-    (cond (eqb r 2) (byte then λ c. byte then λ l. within 0 1 then λ sign. instance then λ τ. give (Decide c l sign τ))
+    (cond (eqb r 2) (byte then λ c. byte then λ l. within 0 1 then λ sign. instance then λ τ. sources f then λ zs. give (Decide c l sign τ zs))
     (cond (eqb r 3) (byte then λ c. instance then λ τ. give (Conflict c τ))
     (cond (eqb r 4) (byte then λ l. give (Resolve l))
     (cond (eqb r 5) (byte then λ l. byte then λ m. give (Factorize l m))
@@ -118,8 +131,8 @@ abbrev pub rule : Reader ℕ
 rule = byte judged λ n. between 1 8 n or unknownRule ∷ []
 
 -- "Each step: rule number and its arguments"
-unfoldable pub step : Reader Step
-step = rule then ruled
+unfoldable pub step : Form → Reader Step
+step f = rule then ruled f
 
 -- ---- the file
 
@@ -131,9 +144,12 @@ letters = 68 ∷ 82 ∷ 70 ∷ []
 abbrev pub mark : Reader (List ℕ)
 mark = field 3 judged λ b. sameList b letters or wrongMark ∷ []
 
--- "Version 1 (16 bits)"
-abbrev pub version : Reader ℕ
-version = number 2 judged λ n. eqb n 1 or wrongMark ∷ []
+-- "Version 1 (16 bits)", "File version 2"
+abbrev pub versionOf : ℕ → Version
+versionOf n = cond (eqb n 2) Two One
+
+abbrev pub version : Reader Version
+version = (number 2 judged λ n. between 1 2 n or wrongMark ∷ []) then λ n. give (versionOf n)
 
 -- "The number of steps (16 bits, at most 2,000)"
 abbrev pub mostSteps : ℕ
@@ -144,34 +160,36 @@ stepCount = number 2 judged λ n. leb n mostSteps or aboveLimit ∷ []
 
 -- What stands before the first step, the number of steps included
 pub record Header : Type 0 where
+  pub version : Version
   pub constants : ℕ
   pub arities : List ℕ
   pub input : List Clause
   pub count : ℕ
 
 -- m input clauses, "Then the number of steps"
-abbrev pub fromClauses : (constants : ℕ) (arities : List ℕ) (m : ℕ) → Reader Header
-fromClauses constants arities m =
+abbrev pub fromClauses : (version : Version) (constants : ℕ) (arities : List ℕ) (m : ℕ) → Reader Header
+fromClauses version constants arities m =
     times m (clause arities) then λ cs.
     stepCount then λ t.
-    give (record { constants = constants; arities = arities; input = cs; count = t })
+    give (record { version = version; constants = constants; arities = arities; input = cs; count = t })
 
 -- "The three letters DRF, version 1 (16 bits); constants; predicates and an arity each; input clauses .."
 unfoldable pub header : Reader Header
 header =
     mark then λ _.
-    version then λ _.
+    version then λ v.
     count mostConstants then λ constants.
     count mostPredicates then λ n.
     times n (count mostArguments) then λ arities.
     count mostInput then λ m.
-    fromClauses constants arities m
+    fromClauses v constants arities m
 
 -- "8: bytes after the last step"
 abbrev pub end : Reader Unit
 end s i = cond (leb (length s) i) (got tt i) (bad surplus i)
 
 pub record File : Type 0 where
+  pub version : Version
   pub constants : ℕ
   pub arities : List ℕ
   pub input : List Clause
@@ -179,8 +197,20 @@ pub record File : Type 0 where
 
 -- The state that a file's header makes
 abbrev pub opened : File → State
-opened F = fresh (F .constants) (F .arities) (F .input)
+opened F = fresh (F .version) (F .constants) (F .arities) (F .input)
 
--- What a file says, or the number and place of its refusal
+-- From the first byte to the last
+unfoldable pub wholeFile : Reader File
+wholeFile =
+    header then λ h.
+    times (h .count) (step (formOf (h .version))) then λ xs.
+    end then λ _.
+    give (record { version = h .version; constants = h .constants; arities = h .arities; input = h .input; steps = xs })
+
+-- "A valid file may have up to 65,536 bytes."
+abbrev pub mostFile : ℕ
+mostFile = 65536
+
+-- What a file says, or the number and place of its refusal: "22, before all others, a file above 65,536 bytes, place 65,536".
 unfoldable pub file : List ℕ → Got File
-file s = (header then λ h. times (h .count) step then λ xs. end then λ _. give (record { constants = h .constants; arities = h .arities; input = h .input; steps = xs })) s zero
+file s = let g = wholeFile s zero in cond (leb (length s) mostFile) g (bad tooLong mostFile)

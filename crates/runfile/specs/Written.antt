@@ -6,10 +6,13 @@ use lib.Dec.{leb}
 use lib.IntN.{ℤ, pos, negsuc}
 use lib.ListN.{length, take}
 use Rattle.basis.specs.declared.Atom.{Atom}
+use Rattle.basis.specs.Versions.{formOf, versionNumber}
+use Rattle.basis.specs.declared.Form.{Form}
 use Rattle.basis.specs.declared.Literal.{Literal}
 use Rattle.calculus.specs.Clauses.{arguments, Clause}
 use Rattle.calculus.specs.Class.{arityOf}
 use Rattle.calculus.specs.States.{Step, Propagate, Decide, Conflict, Resolve, Factorize, Skip, Backtrack, Grow, Unknown}
+use Rattle.calculus.specs.Trails.{Source}
 use Rattle.runfile.specs.File.{letters, File}
 
 -- A number as n bytes, "little-endian"
@@ -43,23 +46,30 @@ writtenClause arities C = C .variables ∷ length (C .atoms) ∷ length (C .lite
 abbrev pub writtenInstance : List ℕ → List ℕ
 writtenInstance τ = length τ ∷ τ
 
-unfoldable pub writtenStep : Step → List ℕ
-writtenStep (Propagate c l τ) = 1 ∷ c ∷ l ∷ writtenInstance τ
-writtenStep (Decide c l sign τ) = 2 ∷ c ∷ l ∷ sign ∷ writtenInstance τ
-writtenStep (Conflict c τ) = 3 ∷ c ∷ writtenInstance τ
-writtenStep (Resolve l) = 4 ∷ l ∷ []
-writtenStep (Factorize l m) = 5 ∷ l ∷ m ∷ []
-writtenStep Skip = 6 ∷ []
-writtenStep (Backtrack l) = 7 ∷ l ∷ []
-writtenStep (Grow n) = 8 ∷ n ∷ []
-writtenStep (Unknown rule) = rule ∷ []
+abbrev pub writtenSource : Source → List ℕ
+writtenSource z = z .clause ∷ z .number ∷ z .sign ∷ writtenInstance (z .instance)
+
+-- The atoms that a Decide brings, which no file of version 1 has
+unfoldable pub writtenSources : Form → List Source → List ℕ
+writtenSources f zs = cond (f .brings) (length zs ∷ joined writtenSource zs) []
+
+unfoldable pub writtenStep : Form → Step → List ℕ
+writtenStep f (Propagate c l τ) = 1 ∷ c ∷ l ∷ writtenInstance τ
+writtenStep f (Decide c l sign τ zs) = 2 ∷ c ∷ l ∷ sign ∷ writtenInstance τ ++ writtenSources f zs
+writtenStep f (Conflict c τ) = 3 ∷ c ∷ writtenInstance τ
+writtenStep f (Resolve l) = 4 ∷ l ∷ []
+writtenStep f (Factorize l m) = 5 ∷ l ∷ m ∷ []
+writtenStep f Skip = 6 ∷ []
+writtenStep f (Backtrack l) = 7 ∷ l ∷ []
+writtenStep f (Grow n) = 8 ∷ n ∷ []
+writtenStep f (Unknown rule) = rule ∷ []
 
 -- What stands before the first step of the file F, but with n input clauses whose bytes are w
 unfoldable pub headerWith : File → (n : ℕ) (w : List ℕ) → List ℕ
-headerWith F n w = letters ++ bytesOf 2 1 ++ (F .constants ∷ length (F .arities) ∷ F .arities ++ (n ∷ w ++ bytesOf 2 (length (F .steps))))
+headerWith F n w = letters ++ bytesOf 2 (versionNumber (F .version)) ++ (F .constants ∷ length (F .arities) ∷ F .arities ++ (n ∷ w ++ bytesOf 2 (length (F .steps))))
 
 abbrev pub writtenWith : File → (n : ℕ) (w : List ℕ) → List ℕ
-writtenWith F n w = headerWith F n w ++ joined writtenStep (F .steps)
+writtenWith F n w = headerWith F n w ++ joined (writtenStep (formOf (F .version))) (F .steps)
 
 abbrev pub writtenHeader : File → List ℕ
 writtenHeader F = headerWith F (length (F .input)) (joined (writtenClause (F .arities)) (F .input))

@@ -1,14 +1,19 @@
 -- What the answers of reading settle: the whole file's refusal, or its header and its steps, one after the other.
 use mathlib.Core.Path.{_∙_, _≡_, ap, refl, sym}
 use mathlib.Core.List.{List, [], _∷_, List·Memᴰ, List·Memᴰ·head, List·Memᴰ·tail}
-use Prim.Native.Nat.{ℕ, _<_}
+use Prim.Native.Nat.{ℕ, _<_, _≤_}
+use native.Mathlib.Decide.{decLe}
 use native.Mathlib.Omega.{arith}
 use lib.ListN.{length}
+use Rattle.basis.specs.Refusals.{tooLong}
+use Rattle.basis.specs.Versions.{formOf}
+use Rattle.basis.specs.declared.Form.{Form}
 use Rattle.calculus.specs.States as calculus
 use Rattle.runfile.specs.Claims.{StepHeld, Sayable, Outcome}
-use Rattle.runfile.specs.File.{File, Header, end, file, header, step}
+use Rattle.runfile.specs.File.{File, Header, end, file, header, mostFile, step, wholeFile}
 use Rattle.runfile.specs.Readers.{Got, bad, got, times}
 use Rattle.runfile.proofs.Given.{every-file}
+use Rattle.runfile.proofs.Short.{long-files-refused}
 use Rattle.runfile.proofs.Times.{times-front, times-length}
 use Rattle.fields.specs.declared.Cursor.the-variants as C
 use Rattle.header.specs.Records.{inputOf, packedHeader}
@@ -16,18 +21,18 @@ use Rattle.header.specs.declared.HeaderRead.{HeaderRead}
 use Rattle.asking.specs.Steps.{stepOf}
 use Rattle.steps.specs.Records.{fileAnswer, packedStep, stepAnswer}
 use Rattle.steps.specs.declared.StepRead.{StepRead}
-use Rattle.steps.proofs.Parts.{saying}
+use Rattle.steps.proofs.Parts.{file-whole, saying}
 use Rattle.steps.proofs.Said.{step-said}
 
 -- The header of the file F, with the place of its first step
 abbrev pub headerOf : File → ℕ → HeaderRead
-headerOf F first = packedHeader (got (record { constants = F .constants; arities = F .arities; input = F .input; count = length (F .steps) }) first)
+headerOf F first = packedHeader (got (record { version = F .version; constants = F .constants; arities = F .arities; input = F .input; count = length (F .steps) }) first)
 
--- From the place i on the steps zs are read, each of them one that a file can hold.
-pub record Ahead (s : List ℕ) (i : ℕ) (zs : List calculus.Step) : Type 0 where
+-- From the place i on the steps zs are read, each of them one that a file of this form can hold.
+pub record Ahead (s : List ℕ) (f : Form) (i : ℕ) (zs : List calculus.Step) : Type 0 where
   pub last : ℕ
-  pub reads : times (length zs) step s i ≡ got zs last
-  pub held : (x : calculus.Step) → List·Memᴰ x zs → StepHeld x
+  pub reads : times (length zs) (step f) s i ≡ got zs last
+  pub held : (x : calculus.Step) → List·Memᴰ x zs → StepHeld (f .brings) x
 
 -- The file s is in order: it says F, and from the place of its first step on its steps are read.
 pub record Reads (s : List ℕ) (h : HeaderRead) (first : ℕ) : Type 0 where
@@ -37,28 +42,35 @@ pub record Reads (s : List ℕ) (h : HeaderRead) (first : ℕ) : Type 0 where
   pub head : h ≡ headerOf says first
   pub input : inputOf (header s 0) ≡ says .input
   pub sayable : Sayable says
-  pub ahead : Ahead s first (says .steps)
+  pub ahead : Ahead s (formOf (says .version)) first (says .steps)
 
--- The file is read to its end, or refused on the way.
+-- The steps of a header's file, as its version has them
+abbrev stepsFrom : Header → List ℕ → ℕ → Got (List calculus.Step)
+stepsFrom h s i = times (h .count) (step (formOf (h .version))) s i
+
+-- The file is read to its end, or refused on the way or for its length.
 data Taken (s : List ℕ) : Type 0 where
-  read : (h : Header) (i : ℕ) (xs : List calculus.Step) (j next : ℕ) → header s 0 ≡ got h i → times (h .count) step s i ≡ got xs j → file s ≡ got (saying h xs) next → Taken s
+  read : (h : Header) (i : ℕ) (xs : List calculus.Step) (j next : ℕ) → header s 0 ≡ got h i → stepsFrom h s i ≡ got xs j → file s ≡ got (saying h xs) next → Taken s
   refused : (n p : ℕ) → file s ≡ bad n p → Taken s
 
 taken : (s : List ℕ) → Taken s
-unfolding file
-taken s = from (header s 0) refl
+unfolding wholeFile
+taken s = elim (decLe (length s) mostFile) [
+  | yes short ↦ from short (header s 0) refl
+  | no long ↦ refused tooLong mostFile (long-files-refused s (omega arith))
+]
   where
-    last : (h : Header) (i : ℕ) (xs : List calculus.Step) (j : ℕ) → header s 0 ≡ got h i → times (h .count) step s i ≡ got xs j → (g : Got (Unit {0})) → end s j ≡ g → Taken s
-    last h i xs j e q (got u k) r = read h i xs j k e q (rw (e, q, r))
-    last h i xs j e q (bad n p) r = refused n p (rw (e, q, r))
+    last : length s ≤ mostFile → (h : Header) (i : ℕ) (xs : List calculus.Step) (j : ℕ) → header s 0 ≡ got h i → stepsFrom h s i ≡ got xs j → (g : Got (Unit {0})) → end s j ≡ g → Taken s
+    last short h i xs j e q (got u k) r = read h i xs j k e q (rw (file-whole s short, e, q, r))
+    last short h i xs j e q (bad n p) r = refused n p (rw (file-whole s short, e, q, r))
 
-    on : (h : Header) (i : ℕ) → header s 0 ≡ got h i → (g : Got (List calculus.Step)) → times (h .count) step s i ≡ g → Taken s
-    on h i e (got xs j) q = last h i xs j e q (end s j) refl
-    on h i e (bad n p) q = refused n p (rw (e, q))
+    on : length s ≤ mostFile → (h : Header) (i : ℕ) → header s 0 ≡ got h i → (g : Got (List calculus.Step)) → stepsFrom h s i ≡ g → Taken s
+    on short h i e (got xs j) q = last short h i xs j e q (end s j) refl
+    on short h i e (bad n p) q = refused n p (rw (file-whole s short, e, q))
 
-    from : (g : Got Header) → header s 0 ≡ g → Taken s
-    from (got h i) e = on h i e (times (h .count) step s i) refl
-    from (bad n p) e = refused n p (rw e)
+    from : length s ≤ mostFile → (g : Got Header) → header s 0 ≡ g → Taken s
+    from short (got h i) e = on short h i e (stepsFrom h s i) refl
+    from short (bad n p) e = refused n p (rw (file-whole s short, e))
 
 module _ (s : List ℕ) where
   sayable : (F : File) (next : ℕ) → file s ≡ got F next → Sayable F
@@ -84,7 +96,7 @@ module _ (s : List ℕ) where
         by (read k i xs j next a b c) =
             let z : C.At i ≡ C.At first = sym (ap (λ (r : HeaderRead). r .at) (rw (c, a) at e)) ∙ q in
             let w : i ≡ first = cc in
-            let n : length xs ≡ k .count = times-length step s (k .count) i xs j b in
+            let n : length xs ≡ k .count = times-length (step (formOf (k .version))) s (k .count) i xs j b in
             record {
               says = saying k xs;
               next = next;
@@ -97,28 +109,28 @@ module _ (s : List ℕ) where
         by (refused m r c) = let z : C.Refused m r ≡ C.At first = sym (ap (λ (r : HeaderRead). r .at) (rw c at e)) ∙ q in absurd (let y : _≡_ {A = ℕ} 0 1 = cc in omega arith)
 
 -- The record r is read of the first of the steps zs, and the others from next on.
-pub record Stepping (s : List ℕ) (zs : List calculus.Step) (r : StepRead) : Type 0 where
+pub record Stepping (s : List ℕ) (f : Form) (zs : List calculus.Step) (r : StepRead) : Type 0 where
   pub step-is : calculus.Step
   pub others : List calculus.Step
   pub next : ℕ
   pub all : zs ≡ step-is ∷ others
   pub says : stepOf (r .step) ≡ step-is
   pub at : r .at ≡ C.At next
-  pub ahead : Ahead s next others
+  pub ahead : Ahead s f next others
 
-pub step-ahead : (s : List ℕ) (i : ℕ) (zs : List calculus.Step) (r : StepRead) → Ahead s i zs → 0 < length zs → r ≡ stepAnswer (step s i) → Stepping s zs r
-step-ahead s i [] r a h e = absurd (omega arith)
-step-ahead s i (x ∷ zs) r a h e =
-    let f = times-front step s (length zs) i (x ∷ zs) (a .last) (a .reads) in
-    let q : x ≡ f .value = cc in
-    let w : zs ≡ f .others = cc in
-    let b = rw (f .first) at e in
+pub step-ahead : (s : List ℕ) (f : Form) (i : ℕ) (zs : List calculus.Step) (r : StepRead) → Ahead s f i zs → 0 < length zs → r ≡ stepAnswer (step f s i) → Stepping s f zs r
+step-ahead s f i [] r a h e = absurd (omega arith)
+step-ahead s f i (x ∷ zs) r a h e =
+    let t = times-front (step f) s (length zs) i (x ∷ zs) (a .last) (a .reads) in
+    let q : x ≡ t .value = cc in
+    let w : zs ≡ t .others = cc in
+    let b = rw (t .first) at e in
     record {
       step-is = x;
       others = zs;
-      next = f .place;
+      next = t .place;
       all = refl;
-      says = ap (λ (r : StepRead). stepOf (r .step)) b ∙ ap (λ (y : calculus.Step). stepOf (packedStep y)) (sym q) ∙ step-said x (a .held x (List·Memᴰ·head refl));
+      says = ap (λ (r : StepRead). stepOf (r .step)) b ∙ ap (λ (y : calculus.Step). stepOf (packedStep y)) (sym q) ∙ step-said (f .brings) x (a .held x (List·Memᴰ·head refl));
       at = ap (λ (r : StepRead). r .at) b;
-      ahead = record { last = a .last; reads = f .rest ∙ ap (λ (l : List calculus.Step). got l (a .last)) (sym w); held = λ y m. a .held y (List·Memᴰ·tail m) };
+      ahead = record { last = a .last; reads = t .rest ∙ ap (λ (l : List calculus.Step). got l (a .last)) (sym w); held = λ y m. a .held y (List·Memᴰ·tail m) };
     }

@@ -1,32 +1,45 @@
 -- Step records, and the answers of reading a step and a whole file.
 use mathlib.Core.Path.{_≡_}
-use mathlib.Core.List.{List, []}
-use Prim.Native.Nat.{ℕ}
+use mathlib.Core.List.{List, [], map}
+use mathlib.Core.Bool.{Bool}
+use Prim.Native.Nat.{ℕ, _≤_}
 use lib.ListN.{length, take}
-use Rattle.basis.specs.Limits.{mostVariables}
+use Rattle.basis.specs.Limits.{mostBrought, mostVariables}
 use Rattle.lists.specs.Arrays.{exactly}
 use Rattle.calculus.specs.States.{Propagate, Decide, Conflict, Resolve, Factorize, Skip, Backtrack, Grow, Unknown}
 use Rattle.calculus.specs.States as calculus
+use Rattle.calculus.specs.Trails as trails
 use Rattle.runfile.specs.Readers.{Got, Reader, _then_, bad, give, got}
-use Rattle.runfile.specs.File.{File, Header, file, header, instance}
+use Rattle.runfile.specs.File.{File, Header, file, header, instance, source, sources}
 use Rattle.runfile.specs.Claims.{StepHeld}
-use Rattle.fields.specs.Views.{after, viewed}
+use Rattle.fields.specs.Views.{Filled, Fills, after, viewed}
 use Rattle.fields.specs.declared.Cursor.{Cursor}
 use Rattle.fields.specs.declared.Cursor.the-variants as C
 use Rattle.header.specs.declared.HeaderRead.{HeaderRead}
 use Rattle.header.specs.Records.{packedHeader}
 use Rattle.asking.specs.declared.Step.{Step}
-use Rattle.asking.specs.Steps.{stepOf}
+use Rattle.asking.specs.Steps.{noSource, stepOf}
+use Rattle.asking.specs.declared.Source.{Source}
+use Rattle.basis.specs.declared.Form.{Form}
+use Rattle.steps.specs.declared.SourcesRead.{SourcesRead}
 use Rattle.steps.specs.declared.StepRead.{StepRead}
 
--- A record with the arguments that a rule may have
+-- The record of a source
+abbrev pub packedSource : trails.Source → Source
+packedSource z = record { clause = z .clause; number = z .number; sign = z .sign; count = length (z .instance); instance = exactly mostVariables 0 (z .instance) }
+
+-- A record with the arguments that a rule may have, and the atoms that it brings
+abbrev pub stepRecordWith : (rule clause literal other sign amount : ℕ) → List ℕ → List trails.Source → Step
+stepRecordWith r c l m g n τ zs = record { rule = r; clause = c; literal = l; other = m; sign = g; amount = n; count = length τ; brought = length zs; instance = exactly mostVariables 0 τ; atoms = exactly mostBrought noSource (map packedSource zs) }
+
+-- .. which brings none
 abbrev pub stepRecord : (rule clause literal other sign amount : ℕ) → List ℕ → Step
-stepRecord r c l m g n τ = record { rule = r; clause = c; literal = l; other = m; sign = g; amount = n; count = length τ; instance = exactly mostVariables 0 τ }
+stepRecord r c l m g n τ = stepRecordWith r c l m g n τ []
 
 -- The record of a step; what its rule has no use for is 0.
 abbrev pub packedStep : calculus.Step → Step
 packedStep (Propagate c l τ) = stepRecord 1 c l 0 0 0 τ
-packedStep (Decide c l sign τ) = stepRecord 2 c l 0 sign 0 τ
+packedStep (Decide c l sign τ zs) = stepRecordWith 2 c l 0 sign 0 τ zs
 packedStep (Conflict c τ) = stepRecord 3 c 0 0 0 0 τ
 packedStep (Resolve l) = stepRecord 4 0 l 0 0 0 []
 packedStep (Factorize l m) = stepRecord 5 0 l m 0 0 []
@@ -38,6 +51,19 @@ packedStep (Unknown r) = stepRecord r 0 0 0 0 0 []
 -- x and the cursor c₁ are the record of the step that f reads of the file s from the cursor c₀ on, and the cursor after it.
 abbrev pub Packs : (s : List ℕ) (f : Reader calculus.Step) (c₀ c₁ : Cursor) → Step → Type 0
 Packs s f c₀ c₁ x = viewed c₁ x ≡ after c₀ ((f then λ y. give (packedStep y)) s)
+
+-- The same of a source; and n of them, in an array that is blank past them
+abbrev pub PacksSource : (s : List ℕ) (c₀ c₁ : Cursor) → Source → Type 0
+PacksSource s c₀ c₁ z = viewed c₁ z ≡ after c₀ ((source then λ y. give (packedSource y)) s)
+
+abbrev pub FillsSources : (s : List ℕ) (n : ℕ) (c₀ c₁ : Cursor) → List Source → Type 0
+FillsSources s n c₀ c₁ zs = Fills mostBrought noSource s (source then λ y. give (packedSource y)) n c₀ c₁ zs
+
+-- The atoms that a Decide brings, read of the file s from a cursor on, and the cursor after them
+pub record ReadsSources (s : List ℕ) (f : Form) (at : Cursor) (r : SourcesRead) : Type 0 where
+  pub reads : viewed (r .at) (take (r .count) (r .atoms)) ≡ after at ((sources f then λ ys. give (map packedSource ys)) s)
+  pub few : r .count ≤ mostBrought
+  pub filled : Filled mostBrought noSource (r .atoms) (r .count)
 
 -- The instance of a step record
 abbrev pub instanceIn : Step → List ℕ
@@ -64,4 +90,4 @@ fileAnswer s = packedHeader (inOrder (file s) (header s 0))
 
 -- The record of a step that a file can hold says that step.
 abbrev pub StepSaid : Type 0
-StepSaid = (x : calculus.Step) → StepHeld x → stepOf (packedStep x) ≡ x
+StepSaid = (brings : Bool) (x : calculus.Step) → StepHeld brings x → stepOf (packedStep x) ≡ x

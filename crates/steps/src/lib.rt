@@ -3,14 +3,20 @@ ghost use mathlib.Core.List.{[]};
 ghost use mathlib.Core.Path.{_≡_};
 ghost use Prim.Native.Nat.{_≤_};
 ghost use lib.ListN.{take};
-ghost use Rattle.basis.specs.Limits.{mostVariables};
+ghost use Rattle.basis.specs.Limits.{mostBrought, mostVariables};
 ghost use Rattle.runfile.specs.Readers.{times};
 ghost use Rattle.runfile.specs.File.{byte, instance, ruled, step, end};
 ghost use Rattle.fields.specs.Views.{Filled, Fills, after, reached, viewed};
-ghost use Rattle.steps.specs.Records.{Instanced, Packs, fileAnswer, stepAnswer, stepRecord};
+ghost use Rattle.steps.specs.Records.{FillsSources, Instanced, Packs, PacksSource, ReadsSources, fileAnswer, stepAnswer, stepRecord};
+use asking::Source;
 use asking::Step;
+use asking::no_source;
+use basis::Form;
+use basis::MOST_BROUGHT;
 use basis::MOST_VARIABLES;
 use basis::SURPLUS;
+use basis::TOO_LONG;
+use basis::form_of;
 use fields::Cursor;
 use fields::byte_at;
 use fields::count_at;
@@ -19,6 +25,19 @@ use fields::within_at;
 use header::HeaderRead;
 use header::no_header;
 use header::read_header;
+
+// An atom that a Decide brings, and the cursor after it
+struct SourceRead {
+    source: Source,
+    at: Cursor,
+}
+
+// Such atoms, and the cursor after them; slots past the count are blank.
+struct SourcesRead {
+    count: u8,
+    atoms: [Source; MOST_BROUGHT],
+    at: Cursor,
+}
 
 // An instance and the cursor after it; slots past the count are 0.
 struct InstanceRead {
@@ -67,6 +86,77 @@ fn instance_at(s: &[u8], at: Cursor) -> InstanceRead
     constants_at(s, past_n, n.value)
 }
 
+// ---- the atoms that a Decide brings
+
+// "Each as clause, atom number, sign, instance"
+fn source_at(s: &[u8], at: Cursor) -> SourceRead
+    ensures { λ r. ⌜ PacksSource (now (s .entry)) at (r .at) (r .source) ⌝ }
+{
+    let c = byte_at(s, at);
+    let past_c = c.at;
+    let n = byte_at(s, past_c);
+    let past_n = n.at;
+    let sign = within_at(s, past_n, 0, 1);
+    let past_sign = sign.at;
+    let tau = instance_at(s, past_sign);
+    let past = tau.at;
+    let constants = tau.instance;
+    let source = Source {
+        clause: c.value,
+        number: n.value,
+        sign: sign.value,
+        count: tau.count,
+        instance: constants,
+    };
+    SourceRead {
+        source: source,
+        at: past,
+    }
+}
+
+// n of them
+fn atoms_at(s: &[u8], at: Cursor, n: u8) -> SourcesRead
+    requires { ⌜ n ≤ mostBrought ⌝ }
+    ensures { λ r. ⌜ (r .count ≡ n) × FillsSources (now (s .entry)) n at (r .at) (r .atoms) ⌝ }
+{
+    let count = n as usize;
+    let none = no_source();
+    let mut atoms = [none; MOST_BROUGHT];
+    let mut past = at;
+    let mut j: usize = 0;
+    while j < count {
+        let read = source_at(s, past);
+        let next = read.at;
+        let z = read.source;
+        atoms[j] = z;
+        past = next;
+        j += 1;
+    }
+    SourcesRead {
+        count: n,
+        atoms: atoms,
+        at: past,
+    }
+}
+
+// "A Decide step ends with a count (at most 24) of atoms", where the file's version has it so
+fn sources_at(s: &[u8], at: Cursor, form: Form) -> SourcesRead
+    ensures { λ r. ⌜ ReadsSources (now (s .entry)) form at r ⌝ }
+{
+    let brings = form.brings;
+    if !brings {
+        let none = no_source();
+        return SourcesRead {
+            count: 0,
+            atoms: [none; MOST_BROUGHT],
+            at: at,
+        };
+    }
+    let n = count_at(s, at, MOST_BROUGHT);
+    let past = n.at;
+    atoms_at(s, past, n.value)
+}
+
 // ---- steps
 
 // A step without an instance, and the cursor after it
@@ -74,6 +164,7 @@ fn bare(rule: u8, literal: u8, other: u8, amount: u8, at: Cursor) -> StepRead
     ensures { λ r. ⌜ r ≡ record { step = stepRecord rule 0 literal other 0 amount []; at = at } ⌝ }
 {
     let none = [0u8; MOST_VARIABLES];
+    let blank = no_source();
     let step = Step {
         rule: rule,
         clause: 0,
@@ -82,7 +173,9 @@ fn bare(rule: u8, literal: u8, other: u8, amount: u8, at: Cursor) -> StepRead
         sign: 0,
         amount: amount,
         count: 0,
+        brought: 0,
         instance: none,
+        atoms: [blank; MOST_BROUGHT],
     };
     StepRead { step: step, at: at }
 }
@@ -94,6 +187,7 @@ fn instanced_at(s: &[u8], at: Cursor, rule: u8, clause: u8, literal: u8, sign: u
     let tau = instance_at(s, at);
     let past = tau.at;
     let constants = tau.instance;
+    let blank = no_source();
     let step = Step {
         rule: rule,
         clause: clause,
@@ -102,7 +196,9 @@ fn instanced_at(s: &[u8], at: Cursor, rule: u8, clause: u8, literal: u8, sign: u
         sign: sign,
         amount: 0,
         count: tau.count,
+        brought: 0,
         instance: constants,
+        atoms: [blank; MOST_BROUGHT],
     };
     StepRead {
         step: step,
@@ -110,8 +206,8 @@ fn instanced_at(s: &[u8], at: Cursor, rule: u8, clause: u8, literal: u8, sign: u
     }
 }
 
-fn propagate_at(s: &[u8], at: Cursor) -> StepRead
-    ensures { λ r. ⌜ Packs (now (s .entry)) (ruled 1) at (r .at) (r .step) ⌝ }
+fn propagate_at(s: &[u8], at: Cursor, form: Form) -> StepRead
+    ensures { λ r. ⌜ Packs (now (s .entry)) (ruled form 1) at (r .at) (r .step) ⌝ }
 {
     let c = byte_at(s, at);
     let past_c = c.at;
@@ -120,8 +216,8 @@ fn propagate_at(s: &[u8], at: Cursor) -> StepRead
     instanced_at(s, past_l, 1, c.value, l.value, 0)
 }
 
-fn decide_at(s: &[u8], at: Cursor) -> StepRead
-    ensures { λ r. ⌜ Packs (now (s .entry)) (ruled 2) at (r .at) (r .step) ⌝ }
+fn decide_at(s: &[u8], at: Cursor, form: Form) -> StepRead
+    ensures { λ r. ⌜ Packs (now (s .entry)) (ruled form 2) at (r .at) (r .step) ⌝ }
 {
     let c = byte_at(s, at);
     let past_c = c.at;
@@ -129,11 +225,22 @@ fn decide_at(s: &[u8], at: Cursor) -> StepRead
     let past_l = l.at;
     let sign = within_at(s, past_l, 0, 1);
     let past_sign = sign.at;
-    instanced_at(s, past_sign, 2, c.value, l.value, sign.value)
+    let read = instanced_at(s, past_sign, 2, c.value, l.value, sign.value);
+    let past = read.at;
+    let zs = sources_at(s, past, form);
+    let end = zs.at;
+    let atoms = zs.atoms;
+    let mut step = read.step;
+    step.brought = zs.count;
+    step.atoms = atoms;
+    StepRead {
+        step: step,
+        at: end,
+    }
 }
 
-fn factorize_at(s: &[u8], at: Cursor) -> StepRead
-    ensures { λ r. ⌜ Packs (now (s .entry)) (ruled 5) at (r .at) (r .step) ⌝ }
+fn factorize_at(s: &[u8], at: Cursor, form: Form) -> StepRead
+    ensures { λ r. ⌜ Packs (now (s .entry)) (ruled form 5) at (r .at) (r .step) ⌝ }
 {
     let l = byte_at(s, at);
     let past_l = l.at;
@@ -143,12 +250,12 @@ fn factorize_at(s: &[u8], at: Cursor) -> StepRead
 }
 
 // The arguments of a rule
-fn arguments_at(s: &[u8], at: Cursor, rule: u8) -> StepRead
-    ensures { λ r. ⌜ Packs (now (s .entry)) (ruled rule) at (r .at) (r .step) ⌝ }
+fn arguments_at(s: &[u8], at: Cursor, form: Form, rule: u8) -> StepRead
+    ensures { λ r. ⌜ Packs (now (s .entry)) (ruled form rule) at (r .at) (r .step) ⌝ }
 {
     match rule {
-        1 => propagate_at(s, at),
-        2 => decide_at(s, at),
+        1 => propagate_at(s, at, form),
+        2 => decide_at(s, at, form),
         3 => {
             let c = byte_at(s, at);
             let past = c.at;
@@ -159,7 +266,7 @@ fn arguments_at(s: &[u8], at: Cursor, rule: u8) -> StepRead
             let past = l.at;
             bare(4, l.value, 0, 0, past)
         }
-        5 => factorize_at(s, at),
+        5 => factorize_at(s, at, form),
         6 => bare(6, 0, 0, 0, at),
         7 => {
             let l = byte_at(s, at);
@@ -175,20 +282,20 @@ fn arguments_at(s: &[u8], at: Cursor, rule: u8) -> StepRead
 }
 
 // A step from a cursor on
-fn step_from(s: &[u8], at: Cursor) -> StepRead
-    ensures { λ r. ⌜ Packs (now (s .entry)) step at (r .at) (r .step) ⌝ }
+fn step_from(s: &[u8], at: Cursor, form: Form) -> StepRead
+    ensures { λ r. ⌜ Packs (now (s .entry)) (step form) at (r .at) (r .step) ⌝ }
 {
     let rule = rule_at(s, at);
     let past = rule.at;
-    arguments_at(s, past, rule.value)
+    arguments_at(s, past, form, rule.value)
 }
 
 // The step at a place, and the cursor after it
-pub fn step_at(s: &[u8], place: usize) -> StepRead
-    ensures { λ r. ⌜ r ≡ stepAnswer (step (now (s .entry)) place) ⌝ }
+pub fn step_at(s: &[u8], place: usize, form: Form) -> StepRead
+    ensures { λ r. ⌜ r ≡ stepAnswer (step form (now (s .entry)) place) ⌝ }
 {
     let start = Cursor::At { place: place };
-    let read = step_from(s, start);
+    let read = step_from(s, start, form);
     let past = read.at;
     if let Cursor::Refused {
         number,
@@ -202,13 +309,13 @@ pub fn step_at(s: &[u8], place: usize) -> StepRead
 // ---- the whole file
 
 // Where n steps end
-fn steps_end(s: &[u8], at: Cursor, n: u32) -> Cursor
-    ensures { λ r. ⌜ r ≡ reached (after at (times n step (now (s .entry)))) ⌝ }
+fn steps_end(s: &[u8], at: Cursor, n: u32, form: Form) -> Cursor
+    ensures { λ r. ⌜ r ≡ reached (after at (times n (step form) (now (s .entry)))) ⌝ }
 {
     let mut past = at;
     let mut j: u32 = 0;
     while j < n {
-        let read = step_from(s, past);
+        let read = step_from(s, past, form);
         let next = read.at;
         if let Cursor::Refused { number, place } = next {
             return next;
@@ -237,13 +344,21 @@ fn end_at(s: &[u8], at: Cursor) -> Cursor
     }
 }
 
+// "22, before all others, a file above 65,536 bytes"
+const MOST_FILE: usize = 65536;
+
 // What stands before the first step and the cursor there, the whole file being in order; or its refusal
 pub fn read_file(s: &[u8]) -> HeaderRead
     ensures { λ r. ⌜ r ≡ fileAnswer (now (s .entry)) ⌝ }
 {
+    if MOST_FILE < s.len() {
+        return no_header(TOO_LONG, MOST_FILE);
+    }
     let head = read_header(s);
     let first = head.at;
-    let past = steps_end(s, first, head.steps);
+    let version = head.version;
+    let form = form_of(version);
+    let past = steps_end(s, first, head.steps, form);
     let last = end_at(s, past);
     match last {
         Cursor::At { place } => head,

@@ -15,7 +15,7 @@ returns : tie.Need-returns
 returns c = record {
   few = c .count-at3 .ensures .1;
   padded = c .before .before .predicates-at .ensures .2;
-  rest = front-parts (now (c .before .before .before .before .before .before .before .before .args .s)) (C.At 0) (c .before .before .before .before .before .before .mark-at .result) (c .before .before .before .before .before .version-at .result) (c .before .before .before .before .count-at .result .at) (c .before .before .before .count-at2 .result .at) (c .before .before .predicates-at .result .at) (c .count-at3 .result .at) (c .before .before .before .before .count-at .result .value) (c .before .before .before .count-at2 .result .value) (arities (c .before .before .predicates-at .result .predicates)) (c .count-at3 .result .value) (c .before .before .before .before .before .before .mark-at .ensures) (c .before .before .before .before .before .version-at .ensures) (told-view (c .before .before .before .before .count-at .ensures .0)) (told-view (c .before .before .before .count-at2 .ensures .0)) (c .before .before .predicates-at .ensures .1) (told-view (c .count-at3 .ensures .0));
+  rest = front-parts (now (c .before .before .before .before .before .before .before .before .args .s)) (C.At 0) (c .before .before .before .before .before .before .mark-at .result) (c .before .before .before .before .before .version-at .result .at) (c .before .before .before .before .count-at .result .at) (c .before .before .before .count-at2 .result .at) (c .before .before .predicates-at .result .at) (c .count-at3 .result .at) (c .before .before .before .before .before .version-at .result .version) (c .before .before .before .before .count-at .result .value) (c .before .before .before .count-at2 .result .value) (arities (c .before .before .predicates-at .result .predicates)) (c .count-at3 .result .value) (c .before .before .before .before .before .before .mark-at .ensures) (told-view (c .before .before .before .before .before .version-at .ensures)) (told-view (c .before .before .before .before .count-at .ensures .0)) (told-view (c .before .before .before .count-at2 .ensures .0)) (c .before .before .predicates-at .ensures .1) (told-view (c .count-at3 .ensures .0));
 }
 
 pub front-at-spec : {M : Type 1} → statement M

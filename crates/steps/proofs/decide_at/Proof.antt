@@ -7,9 +7,17 @@ use Rattle.steps.proofs.decide_at.Statement.{statement}
 use Rattle.steps.proofs.decide_at.Tie as tie
 
 returns : tie.Need-returns
-returns c = rw (c .instanced-at .ensures .is) (decide-parts (now (c .before .before .before .before .before .args .s)) (c .before .before .before .before .before .args .at) (c .before .before .before .byte-at .result .at) (c .before .before .byte-at2 .result .at) (c .before .within-at .result .at) (c .instanced-at .result .at) (c .before .before .before .byte-at .result .value) (c .before .before .byte-at2 .result .value) (c .before .within-at .result .value) _ (told-view (c .before .before .before .byte-at .ensures)) (told-view (c .before .before .byte-at2 .ensures)) (told-view (c .before .within-at .ensures)) (c .instanced-at .ensures .reads))
+returns c =
+    let sources = c .before .before .sources-at in
+    let tau = c .before .before .before .instanced-at in
+    let sign = c .before .before .before .before .within-at in
+    let literal = c .before .before .before .before .before .byte-at2 in
+    let clause = c .before .before .before .before .before .before .byte-at in
+    let args = c .before .before .before .before .before .before .before .before .args in
+    rw (tau .ensures .is) (decide-parts (now (args .s)) (args .form) (args .at) (clause .result .at) (literal .result .at) (sign .result .at) (tau .result .at) (clause .result .value) (literal .result .value) (sign .result .value) _ (sources .result)
+    (told-view (clause .ensures)) (told-view (literal .ensures)) (told-view (sign .ensures)) (tau .ensures .reads) (sources .ensures))
 
 pub decide-at-spec : {M : Type 1} → statement M
 decide-at-spec =
     tie.close
-    (tie.spec (λ c κs. search needs) (λ c κs. search needs) (λ c κs. search needs) (λ c κs. search needs) returns)
+    (tie.spec (λ c κs. search needs) (λ c κs. search needs) (λ c κs. search needs) (λ c κs. search needs) (λ c κs. search needs) returns)

@@ -5,7 +5,10 @@ use Rattle.steps.proofs.instanced_at.Statement.{statement}
 use Rattle.steps.proofs.instanced_at.Tie as tie
 
 returns : tie.Need-returns
-returns c = record { reads = c .before .instance-at .ensures .0; is = record-is (c .before .before .before .args .rule) (c .before .before .before .args .clause) (c .before .before .before .args .literal) (c .before .before .before .args .sign) (c .before .instance-at .result .count) (c .before .instance-at .result .instance) (c .before .instance-at .ensures .1) (c .before .instance-at .ensures .2) }
+returns c =
+    let args = c .before .before .before .before .args in
+    let tau = c .before .before .instance-at in
+    record { reads = tau .ensures .0; is = record-is (args .rule) (args .clause) (args .literal) (args .sign) (tau .result .count) (tau .result .instance) (c .no-source .result) (tau .ensures .1) (tau .ensures .2) (c .no-source .ensures) }
 
 pub instanced-at-spec : {M : Type 1} → statement M
-instanced-at-spec = tie.close (tie.spec (λ c κs. search needs) returns)
+instanced-at-spec = tie.close (tie.spec (λ c κs. search needs) (λ c κs. search needs) returns)
