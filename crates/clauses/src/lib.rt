@@ -1,10 +1,12 @@
-// Clause records, their blanks, equality of atoms and literals, complements, ground instances, and which variables occur.
+// Clause records, their blanks, equality of atoms and literals, complements, denials, ground instances, and which variables occur.
 // Slots past a count are blank in every record that is made here or above, so that equal clauses are equal values.
 ghost use mathlib.Core.Path.{_≡_};
 ghost use mathlib.Core.Bool.{_||_};
 ghost use lib.Dec.{eqb};
+ghost use lib.IntN.{pos, negℤ, _-ℤ_};
 ghost use lib.ListN.{take};
 ghost use Rattle.basis.specs.Limits.{mostAtoms, mostLiterals};
+ghost use Rattle.basis.specs.Atoms as atoms;
 ghost use Rattle.basis.specs.Atoms.{noAtom};
 ghost use Rattle.lists.specs.Lists.{anyOf};
 ghost use Rattle.calculus.specs.Clauses.{arguments, noLiteral, noClause, noInstanced, sameAtom, sameLiteral, renameAtom, under};
@@ -148,6 +150,23 @@ pub fn complement(l: Literal) -> Literal
     let mut r = l;
     r.positive = !l.positive;
     r
+}
+
+fn denied(c: i32) -> i32
+    ensures { λ r. ⌜ r ≡ (negℤ c -ℤ pos 1) ⌝ }
+{
+    -1 - c
+}
+
+// "The denial of p − q ≤ c is q − p ≤ −c − 1."
+pub fn denial(a: Atom) -> Atom
+    ensures { λ r. ⌜ r ≡ atoms.denial a ⌝ }
+{
+    Atom {
+        p: a.q,
+        q: a.p,
+        c: denied(a.c),
+    }
 }
 
 // The constant that the first n of an instance have for variable x; 0 for place 0, and past them

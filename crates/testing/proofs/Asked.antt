@@ -7,7 +7,7 @@ use native.Mathlib.Omega.{arith}
 use lib.Dec.{T}
 use lib.IntN.{ℤ}
 use lib.ListN.{length, take}
-use Rattle.basis.specs.Atoms.{Proper, noAtom}
+use Rattle.basis.specs.Atoms.{InTest, Proper, noAtom}
 use Rattle.basis.specs.Limits.{mostTested}
 use Rattle.basis.specs.declared.Atom.{Atom}
 use Rattle.lists.proofs.Members.{member-at, of-members}
@@ -26,7 +26,7 @@ module _ (n m : ℕ) (atoms : List Atom) (few : m ≤ mostTested) (long : length
 
   pub answer-witnesses : (r : Answer) (slots : List ℤ) → SaysOf n m atoms r slots → WitnessOf n (take m atoms) (record { given = isYes r; numbers = slots })
   answer-witnesses Yes slots s = record {
-    says = ((λ u. (record { few-constants = s .0 .few-enough .few-constants; proper = of-members noAtom (Proper n) atoms m (s .0 .proper) }, s .1)), λ h. tt);
+    says = ((λ u. (record { few-constants = s .0 .few-enough .few-constants; proper = of-members noAtom (Proper InTest n) atoms m (s .0 .proper) }, s .1)), λ h. tt);
     shown = λ u. s .2;
     blank = λ u. absurd (u tt);
   }

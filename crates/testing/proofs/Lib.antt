@@ -1,4 +1,5 @@
--- Laws of what is gathered, of the constraint test's answers and of new atoms, and the proofs of the functions.
-pub mod Atoms
+-- Laws of what is gathered, of the constraint test's answers, of new atoms and of those that are free, and the proofs of the functions.
+pub mod Gathering
 pub mod Asked
 pub mod New
+pub mod Free

@@ -2,11 +2,11 @@
 use mathlib.Core.Path.{_∙_, _≡_, ap, refl, subst, sym}
 use mathlib.Core.List.{List, [], _++_, _∷_, append-assoc, append-nil}
 use mathlib.Core.Bool.{Bool, _||_, cond, false, true}
+use mathlib.Core.Option.{none}
 use Prim.Native.Nat.{_+_, _<_, _≤_, suc, ℕ}
 use native.Mathlib.Omega.{arith}
 use lib.Dec.{T}
-use lib.ListN.{drop, drop-of-length-le, getD, length, length-take, set, take, take-append-drop}
-use lib.Seq.{drop-append-le, take-take}
+use lib.ListN.{drop, drop-of-length-le, getD, length, length-take, set, take}
 use Rattle.basis.specs.Atoms.{noAtom}
 use Rattle.basis.specs.Limits.{mostAtoms, mostEntries}
 use Rattle.basis.specs.declared.Atom.{Atom}
@@ -21,8 +21,9 @@ use Rattle.calculus.specs.Trails.{Origin, Trail, appendAtoms, atomOnTrail, atom
 use Rattle.trail.proofs.Stored.{stored-pushed}
 use Rattle.trail.specs.Entries.{Recorded, Stored}
 use Rattle.trail.specs.declared.Entry.{Entry}
-use Rattle.testing.specs.New.{newAtoms, packedNew, pushedAtoms}
-use Rattle.testing.specs.declared.NewAtoms.{NewAtoms}
+use Rattle.testing.proofs.Gathering.{both-parts, part-more}
+use Rattle.testing.specs.New.{newAtoms, packedAtoms, pushedAtoms}
+use Rattle.testing.specs.declared.Atoms.{Atoms}
 
 -- ---- found one after the other
 
@@ -45,10 +46,9 @@ module _ (l : List Atom) (i j : ℕ) (h : i ≤ j) (k : j < length l) where
       → newAtoms (take i l) (drop i (take (j + 1) l)) ≡ newAtoms (take i l) (drop i (take j l)) ++ cond b [] (getD l j noAtom ∷ [])
   next {b} e =
       let x = getD l j noAtom in
-      let before : take i l ++ drop i (take j l) ≡ take j l = ap (λ r. r ++ drop i (take j l)) (sym (take-take i j l h)) ∙ take-append-drop i (take j l) in
-      ap (newAtoms (take i l)) (ap (drop i) (take-more l j noAtom k) ∙ drop-append-le i (take j l) (x ∷ []) (omega (arith, length-take j l)))
+      ap (newAtoms (take i l)) (part-more l i j h k)
       ∙ new-more (take i l) (drop i (take j l)) x
-      ∙ ap (λ r. newAtoms (take i l) (drop i (take j l)) ++ cond r [] (x ∷ [])) (ap (anyOf (sameAtom x)) before ∙ e)
+      ∙ ap (λ r. newAtoms (take i l) (drop i (take j l)) ++ cond r [] (x ∷ [])) (ap (anyOf (sameAtom x)) (both-parts l i j h) ∙ e)
 
   pub known-turn : anyOf (sameAtom (getD l j noAtom)) (take j l) ≡ true → newAtoms (take i l) (drop i (take (j + 1) l)) ≡ newAtoms (take i l) (drop i (take j l))
   known-turn e = next e ∙ append-nil _
@@ -60,8 +60,8 @@ module _ (l : List Atom) (i j : ℕ) (h : i ≤ j) (k : j < length l) where
 pub new-none : (l : List Atom) (i : ℕ) → newAtoms (take i l) (drop i (take i l)) ≡ []
 new-none l i = ap (newAtoms (take i l)) (drop-of-length-le (take i l) {i = i} (omega (arith, length-take i l)))
 
-pub new-listed : {n : ℕ} {at : List Atom} (az : List Atom) → n ≡ length az → at ≡ exactly mostAtoms noAtom az → record { count = n; at = at } ≡ packedNew az
-new-listed az p q = cc
+pub atoms-packed : {n : ℕ} {at : List Atom} (az : List Atom) → n ≡ length az → at ≡ exactly mostAtoms noAtom az → record { count = n; at = at } ≡ packedAtoms az
+atoms-packed az p q = cc
 
 pub new-few : (known az : List Atom) → length (newAtoms known az) ≤ length az
 new-few known [] = omega arith
@@ -83,7 +83,7 @@ or-exchanged false false = refl
 pub atoms-on : (t : Trail) (a : Atom) → anyOf (sameAtom a) (atomsOf t) ≡ atomOnTrail a t
 atoms-on [] a = refl
 atoms-on (foreground l o ∷ t) a = atoms-on t a
-atoms-on (background b ∷ t) a =
+atoms-on (background b o ∷ t) a =
     anyOf-more (sameAtom a) (atomsOf t) b ∙ ap (λ r. r || sameAtom a b) (atoms-on t a) ∙ or-exchanged (atomOnTrail a t) (sameAtom a b)
 
 append-known : (az known : List Atom) (t : Trail) → ((b : Atom) → anyOf (sameAtom b) known ≡ atomOnTrail b t) → appendAtoms az t ≡ pushedAtoms (newAtoms known az) t
@@ -103,12 +103,12 @@ append-known (a ∷ az) known t same = go (atomOnTrail a t) refl (λ u h. append
     already e b false q = or-exchanged (atomOnTrail b t) false
 
     go : (b : Bool) → atomOnTrail a t ≡ b → ((u : Trail) → ((x : Atom) → anyOf (sameAtom x) more ≡ atomOnTrail x u) → appendAtoms az u ≡ pushedAtoms (newAtoms more az) u)
-        → appendAtoms az (cond (atomOnTrail a t) t (background a ∷ t)) ≡ pushedAtoms (newAtoms known (a ∷ az)) t
+        → appendAtoms az (cond (atomOnTrail a t) t (background a none ∷ t)) ≡ pushedAtoms (newAtoms known (a ∷ az)) t
     go true e ih =
-        ap (λ b. appendAtoms az (cond b t (background a ∷ t))) e ∙ ih t (λ b. of-more b ∙ already e b (sameAtom b a) refl)
+        ap (λ b. appendAtoms az (cond b t (background a none ∷ t))) e ∙ ih t (λ b. of-more b ∙ already e b (sameAtom b a) refl)
         ∙ ap (λ b. pushedAtoms (cond b (newAtoms more az) (a ∷ newAtoms more az)) t) (sym (same a ∙ e))
     go false e ih =
-        ap (λ b. appendAtoms az (cond b t (background a ∷ t))) e ∙ ih (background a ∷ t) (λ b. of-more b ∙ or-exchanged (atomOnTrail b t) (sameAtom b a))
+        ap (λ b. appendAtoms az (cond b t (background a none ∷ t))) e ∙ ih (background a none ∷ t) (λ b. of-more b ∙ or-exchanged (atomOnTrail b t) (sameAtom b a))
         ∙ ap (λ b. pushedAtoms (cond b (newAtoms more az) (a ∷ newAtoms more az)) t) (sym (same a ∙ e))
 
 -- ".. then the atoms not yet on the trail, in clause order, each once": the new ones, one after the other
@@ -117,7 +117,7 @@ append-new az t = append-known az (atomsOf t) t (atoms-on t)
 
 pub pushed-length : (az : List Atom) (t : Trail) → length (pushedAtoms az t) ≡ length t + length az
 pushed-length [] t = omega arith
-pushed-length (a ∷ az) t = omega (arith, pushed-length az (background a ∷ t))
+pushed-length (a ∷ az) t = omega (arith, pushed-length az (background a none ∷ t))
 
 -- What Propagate and Backtrack name: the literal, and then the new atoms
 pub propagated-new : (C : Clause) (i : ℕ) (τ : List ℕ) (o : Origin) (t : Trail)
@@ -128,15 +128,15 @@ propagated-new C i τ o t = append-new (groundAtoms τ (C .atoms)) (foreground (
 
 pushed-both : (az bz : List Atom) (t : Trail) → pushedAtoms (az ++ bz) t ≡ pushedAtoms bz (pushedAtoms az t)
 pushed-both [] bz t = refl
-pushed-both (a ∷ az) bz t = pushed-both az bz (background a ∷ t)
+pushed-both (a ∷ az) bz t = pushed-both az bz (background a none ∷ t)
 
 -- The next of the new atoms stored behind the entries that the array has
-pub stored-new : {es : List Entry} {e : Entry} {m : ℕ} (t : Trail) (r : NewAtoms) (az : List Atom) (j : ℕ) → r ≡ packedNew az → j < r .count → r .count ≤ mostAtoms → m < mostEntries
-    → Recorded e (background (getD (r .at) j noAtom)) → Stored es m (pushedAtoms (take j az) t) → Stored (set es m e) (m + 1) (pushedAtoms (take (j + 1) az) t)
+pub stored-new : {es : List Entry} {e : Entry} {m : ℕ} (t : Trail) (r : Atoms) (az : List Atom) (j : ℕ) → r ≡ packedAtoms az → j < r .count → r .count ≤ mostAtoms → m < mostEntries
+    → Recorded e (background (getD (r .at) j noAtom) none) → Stored es m (pushedAtoms (take j az) t) → Stored (set es m e) (m + 1) (pushedAtoms (take (j + 1) az) t)
 stored-new {es} {e} {m} t r az j p h few room R S =
     let counted : r .count ≡ length az = ap (λ q. q .count) p in
     let a = getD az j noAtom in
     let same : getD (r .at) j noAtom ≡ a = ap (λ q. getD (q .at) j noAtom) p ∙ getD-exactly noAtom mostAtoms az j (omega arith) in
-    let all : pushedAtoms (take (j + 1) az) t ≡ background a ∷ pushedAtoms (take j az) t =
+    let all : pushedAtoms (take (j + 1) az) t ≡ background a none ∷ pushedAtoms (take j az) t =
     ap (λ q. pushedAtoms q t) (take-more az j noAtom (omega arith)) ∙ pushed-both (take j az) (a ∷ []) t in
-    subst (Stored (set es m e) (m + 1)) (sym all) (stored-pushed S room (subst (λ q. Recorded e (background q)) same R))
+    subst (Stored (set es m e) (m + 1)) (sym all) (stored-pushed S room (subst (λ q. Recorded e (background q none)) same R))

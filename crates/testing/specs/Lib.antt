@@ -1,3 +1,3 @@
--- What the constraint test is asked, and which of the clause's atoms are new.
+-- What the constraint test is asked, which of the step's atoms are new, and whether all are undefined.
 pub mod Asked
 pub mod New

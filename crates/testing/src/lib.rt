@@ -1,15 +1,16 @@
-// What the constraint test is asked: the trail's atoms from the first entry on, then the clause's; and which of them are new.
+// What the constraint test is asked: the trail's atoms from the first entry on, then the step's; and which of them are new.
 ghost use mathlib.Core.Path.{_≡_};
 ghost use Prim.Native.Nat.{_≤_};
 ghost use lib.ListN.{take};
-ghost use Rattle.basis.specs.Limits.{mostEntries, mostTested};
+ghost use Rattle.basis.specs.Limits.{mostAtoms, mostEntries, mostTested};
 ghost use Rattle.calculus.specs.Clauses.{groundAtoms};
+ghost use Rattle.calculus.specs.Tests.{atomsUndefined};
 ghost use Rattle.calculus.specs.Trails.{atomsOf};
 ghost use Rattle.clauses.specs.Records.{clauseOf};
 ghost use Rattle.trail.specs.Entries.{entryOf, trailOf};
 ghost use mathlib.Core.Option.{none};
 ghost use Rattle.testing.specs.Asked.{isBackground, testedAtoms, knownAtoms, stepAtoms, isYes, Gathers, InRoom, WitnessOf};
-ghost use Rattle.testing.specs.New.{newAtoms, packedNew};
+ghost use Rattle.testing.specs.New.{listed, newAtoms, packedAtoms};
 ghost use Rattle.constraint.specs.Witnesses.{packedWitness};
 use basis::Atom;
 use basis::MOST_ATOMS;
@@ -20,6 +21,7 @@ use basis::MOST_VARIABLES;
 use basis::Witness;
 use clauses::Clause;
 use clauses::atoms_of;
+use clauses::denial;
 use clauses::ground_atom;
 use clauses::no_atom;
 use clauses::same_atom;
@@ -27,15 +29,15 @@ use constraint::Answer;
 use trail::Entry;
 use trail::Kind;
 
-// The atoms put to the constraint test: `known` of the trail, then the clause's, `count` in all; blank past them
+// The atoms put to the constraint test: `known` of the trail, then the step's, `count` in all; blank past them
 pub struct Tested {
     pub known: u8,
     pub count: u8,
     pub atoms: [Atom; MOST_TESTED],
 }
 
-// Atoms not yet on the trail, blank past their count
-pub struct NewAtoms {
+// The atoms of a step, blank past their count: its clause's, those it brings, or those not yet on the trail
+pub struct Atoms {
     pub count: u8,
     pub at: [Atom; MOST_ATOMS],
 }
@@ -47,24 +49,38 @@ fn is_background(e: Entry) -> bool
     let kind = e.kind;
     match kind {
         Kind::Background => true,
+        Kind::Brought => true,
         Kind::Propagated => false,
         Kind::Decided => false,
     }
 }
 
-// "trail atoms and the clause's atoms": the trail's from the first entry on, then those of the clause's instance in clause order
-pub fn gathered(
-    trail: [Entry; MOST_ENTRIES],
-    length: u8,
-    clause: Clause,
-    instance: [u8; MOST_VARIABLES],
-    count: u8,
-) -> Tested
-    requires { ⌜ length ≤ mostEntries ⌝ }
-    ensures { λ r. ⌜ Gathers r (atomsOf (trailOf trail length)) (groundAtoms (take count instance) (clauseOf clause .atoms)) ⌝ }
+// The atoms of a clause's instance, in clause order: at most 24
+pub fn ground_atoms(clause: Clause, instance: [u8; MOST_VARIABLES], count: u8) -> Atoms
+    ensures { λ r. ⌜ (r ≡ packedAtoms (groundAtoms (take count instance) (clauseOf clause .atoms))) × (r .count ≤ mostAtoms) ⌝ }
+{
+    let n = atoms_of(clause);
+    let blank = no_atom();
+    let mut at = [blank; MOST_ATOMS];
+    let mut j = 0;
+    while j < n {
+        let a = clause.atoms[j];
+        at[j] = ground_atom(a, instance, count);
+        j += 1;
+    }
+    Atoms {
+        count: n as u8,
+        at: at,
+    }
+}
+
+// "trail atoms and the clause's atoms": the trail's from the first entry on, then the step's in order
+pub fn gathered(trail: [Entry; MOST_ENTRIES], length: u8, step: Atoms) -> Tested
+    requires { ⌜ (length ≤ mostEntries) × (step .count ≤ mostAtoms) ⌝ }
+    ensures { λ r. ⌜ Gathers r (atomsOf (trailOf trail length)) (listed step) ⌝ }
 {
     let n = length as usize;
-    let own = atoms_of(clause);
+    let own = step.count as usize;
     let blank = no_atom();
     let mut tested = Tested {
         known: 0,
@@ -85,8 +101,8 @@ pub fn gathered(
     tested.known = m as u8;
     let mut j = 0;
     while j < own {
-        let b = clause.atoms[j];
-        tested.atoms[m] = ground_atom(b, instance, count);
+        let b = step.at[j];
+        tested.atoms[m] = b;
         m += 1;
         j += 1;
     }
@@ -129,10 +145,38 @@ pub fn possible(constants: u8, tested: Tested) -> Witness
     }
 }
 
-// "the atoms not yet on the trail, in clause order, each once": those of the clause's that equal no earlier one
-pub fn new_atoms(tested: Tested) -> NewAtoms
+// "an atom so brought, or its denial, is on the trail or brought before it": whether none of the step's is
+pub fn all_undefined(tested: Tested) -> bool
     requires { ⌜ InRoom tested ⌝ }
-    ensures { λ r. ⌜ r ≡ packedNew (newAtoms (knownAtoms tested) (stepAtoms tested)) ⌝ }
+    ensures { λ r. ⌜ r ≡ atomsUndefined (knownAtoms tested) (stepAtoms tested) ⌝ }
+{
+    let atoms = tested.atoms;
+    let n = tested.count as usize;
+    let known = tested.known as usize;
+    let mut j = known;
+    while j < n {
+        let a = atoms[j];
+        let d = denial(a);
+        let mut k = 0;
+        while k < j {
+            let b = atoms[k];
+            if same_atom(a, b) {
+                return false;
+            }
+            if same_atom(d, b) {
+                return false;
+            }
+            k += 1;
+        }
+        j += 1;
+    }
+    true
+}
+
+// "the atoms not yet on the trail, in clause order, each once": those of the clause's that equal no earlier one
+pub fn new_atoms(tested: Tested) -> Atoms
+    requires { ⌜ InRoom tested ⌝ }
+    ensures { λ r. ⌜ r ≡ packedAtoms (newAtoms (knownAtoms tested) (stepAtoms tested)) ⌝ }
 {
     let atoms = tested.atoms;
     let n = tested.count as usize;
@@ -156,7 +200,7 @@ pub fn new_atoms(tested: Tested) -> NewAtoms
         j += 1;
     }
     let found = m as u8;
-    NewAtoms {
+    Atoms {
         count: found,
         at: at,
     }

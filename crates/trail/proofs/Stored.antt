@@ -1,11 +1,12 @@
 -- A trail stored in an array: what an entry pushed or taken away does to it, and that the record of a trail says that trail.
 use mathlib.Core.Path.{_∙_, _≡_, ap, ap₂, refl, subst, sym}
 use mathlib.Core.List.{List, [], _++_, _∷_, map, map-append, reverse, reverse-cons, reverseAux-eq}
+use mathlib.Core.Option.{none, some}
 use mathlib.Core.Bool.{Bool, cond, false, true}
 use Prim.Native.Nat.{_+_, _<_, _≤_, pred, suc, zero, ℕ}
 use native.Mathlib.Numerals.{add-one}
 use native.Mathlib.Omega.{arith}
-use lib.Dec.{leb}
+use lib.Dec.{eqb, leb}
 use lib.ListN.{getD, length, length-map, length-reverse, set, take}
 use lib.Seq.{getD-set-other, getD-set-same, take-suc}
 use Rattle.basis.specs.Limits.{mostEntries, mostVariables}
@@ -20,10 +21,15 @@ use Rattle.trail.proofs.Walks.{trail-length}
 
 -- ---- one entry
 
+sign-says : (b : Bool) → eqb (cond b 1 0) 1 ≡ b
+sign-says true = refl
+sign-says false = refl
+
 pub entry-says : (e : calculus.Entry) → Short e → entryOf (packedEntry e) ≡ e
-entry-says (background a) h = refl
+entry-says (background a none) h = refl
+entry-says (background a (some z)) h = ap (λ k. background a (some (record { clause = z .clause; number = z .number; sign = z .sign; instance = k }))) (take-exactly 0 mostVariables (z .instance) h)
 entry-says (foreground l (propagated c n τ)) h = ap (λ k. foreground l (propagated c n k)) (take-exactly 0 mostVariables τ h)
-entry-says (foreground l (decided c n b τ)) h = ap (λ k. foreground l (decided c n b k)) (take-exactly 0 mostVariables τ h)
+entry-says (foreground l (decided c n b τ k)) h = ap₂ (λ g σ. foreground l (decided c n g σ k)) (sign-says b) (take-exactly 0 mostVariables τ h)
 
 -- ---- the array
 

@@ -1,8 +1,10 @@
 -- Entry records as the calculus's entries, and arrays of them as trails.
 use mathlib.Core.Path.{_≡_}
 use mathlib.Core.List.{List, [], _∷_, map, reverse}
-use mathlib.Core.Bool.{false}
+use mathlib.Core.Option.{none, some}
+use mathlib.Core.Bool.{cond}
 use Prim.Native.Nat.{ℕ, zero, suc, _≤_}
+use lib.Dec.{eqb}
 use lib.ListN.{length, getD, take}
 use Rattle.basis.specs.Limits.{mostEntries, mostVariables}
 use Rattle.basis.specs.Atoms.{noAtom}
@@ -12,32 +14,35 @@ use Rattle.calculus.specs.Trails as calculus
 use Rattle.calculus.specs.Trails.{Trail, foreground, background, propagated, decided}
 use Rattle.trail.specs.declared.Entry.{Entry}
 use Rattle.trail.specs.declared.Kind.{Kind}
-use Rattle.trail.specs.declared.Kind.the-variants.{Background, Propagated, Decided}
+use Rattle.trail.specs.declared.Kind.the-variants.{Background, Brought, Propagated, Decided}
 
 -- The blank entry stands in every slot past the trail's length.
 abbrev pub blankEntry : Entry
-blankEntry = record { atom = noAtom; kind = Background; literal = noLiteral; clause = 0; number = 0; sign = false; count = 0; spare = 0; instance = exactly mostVariables 0 [] }
+blankEntry = record { atom = noAtom; kind = Background; literal = noLiteral; clause = 0; number = 0; sign = 0; count = 0; brought = 0; spare = 0; instance = exactly mostVariables 0 [] }
 
 -- What a read past an array's end would give
 abbrev pub pastEnd : Entry
-pastEnd = record { atom = noAtom; kind = Background; literal = noLiteral; clause = 0; number = 0; sign = false; count = 0; spare = 0; instance = [] }
+pastEnd = record { atom = noAtom; kind = Background; literal = noLiteral; clause = 0; number = 0; sign = 0; count = 0; brought = 0; spare = 0; instance = [] }
 
 -- What an entry record says, by its kind
 abbrev pub entryAs : Kind → Entry → calculus.Entry
-entryAs Background e = background (e .atom)
+entryAs Background e = background (e .atom) none
+entryAs Brought e = background (e .atom) (some (record { clause = e .clause; number = e .number; sign = e .sign; instance = take (e .count) (e .instance) }))
 entryAs Propagated e = foreground (e .literal) (propagated (e .clause) (e .number) (take (e .count) (e .instance)))
-entryAs Decided e = foreground (e .literal) (decided (e .clause) (e .number) (e .sign) (take (e .count) (e .instance)))
+entryAs Decided e = foreground (e .literal) (decided (e .clause) (e .number) (eqb (e .sign) 1) (take (e .count) (e .instance)) (e .brought))
 
 abbrev pub entryOf : Entry → calculus.Entry
 entryOf e = entryAs (e .kind) e
 
 -- The record of an entry; what its kind has no use for is blank.
 abbrev pub packedEntry : calculus.Entry → Entry
-packedEntry (background a) = record { atom = a; kind = Background; literal = noLiteral; clause = 0; number = 0; sign = false; count = 0; spare = 0; instance = exactly mostVariables 0 [] }
+packedEntry (background a none) = record { atom = a; kind = Background; literal = noLiteral; clause = 0; number = 0; sign = 0; count = 0; brought = 0; spare = 0; instance = exactly mostVariables 0 [] }
+packedEntry (background a (some z)) =
+    record { atom = a; kind = Brought; literal = noLiteral; clause = z .clause; number = z .number; sign = z .sign; count = length (z .instance); brought = 0; spare = 0; instance = exactly mostVariables 0 (z .instance) }
 packedEntry (foreground l (propagated c n τ)) =
-    record { atom = noAtom; kind = Propagated; literal = l; clause = c; number = n; sign = false; count = length τ; spare = 0; instance = exactly mostVariables 0 τ }
-packedEntry (foreground l (decided c n b τ)) =
-    record { atom = noAtom; kind = Decided; literal = l; clause = c; number = n; sign = b; count = length τ; spare = 0; instance = exactly mostVariables 0 τ }
+    record { atom = noAtom; kind = Propagated; literal = l; clause = c; number = n; sign = 0; count = length τ; brought = 0; spare = 0; instance = exactly mostVariables 0 τ }
+packedEntry (foreground l (decided c n b τ k)) =
+    record { atom = noAtom; kind = Decided; literal = l; clause = c; number = n; sign = cond b 1 0; count = length τ; brought = k; spare = 0; instance = exactly mostVariables 0 τ }
 
 -- The first n entries of an array as a trail: the last entry first
 abbrev pub trailOf : List Entry → ℕ → Trail
@@ -60,9 +65,10 @@ OwnTrail es n = Stored es n (trailOf es n)
 
 -- An entry's instance has at most 12 constants.
 abbrev pub Short : calculus.Entry → Type 0
-Short (background a) = Unit {0}
+Short (background a none) = Unit {0}
+Short (background a (some z)) = length (z .instance) ≤ mostVariables
 Short (foreground l (propagated c n τ)) = length τ ≤ mostVariables
-Short (foreground l (decided c n b τ)) = length τ ≤ mostVariables
+Short (foreground l (decided c n b τ k)) = length τ ≤ mostVariables
 
 abbrev pub AllShort : Trail → Type 0
 AllShort [] = Unit {0}

@@ -3,6 +3,7 @@
 // also blank past its length, and each entry is the record of what it says: `OwnTrail`.
 ghost use mathlib.Core.Path.{_≡_};
 ghost use mathlib.Core.List.{[]};
+ghost use mathlib.Core.Option.{none, some};
 ghost use mathlib.Core.Bool.{_&&_, cond};
 ghost use Prim.Native.Nat.{suc, _≤_, _<_};
 ghost use lib.ListN.{take};
@@ -36,22 +37,25 @@ use instances::other_instances;
 // What an entry is
 pub enum Kind {
     Background,
+    Brought,
     Propagated,
     Decided,
 }
 
-// "The trail holds at most 160 entries of both kinds together." A background entry has an atom; a foreground entry has a literal and keeps
-// its step: clause, literal number, Decide's sign, and an instance of `count` constants. `spare` is 0: it fills the record up to 32 bytes, so
-// that the blank trail is one run of zeros.
+// "The trail holds at most 160 entries of both kinds together." A background entry has an atom, and one that a decision brought keeps its source:
+// clause, atom number, sign, and an instance of `count` constants. A foreground entry has a literal and keeps its step: clause, literal number,
+// Decide's sign, an instance, and how many atoms a decision brought. `spare` is 0: it fills the record up to 32 bytes, so that the blank trail is
+// one run of zeros.
 pub struct Entry {
     pub atom: Atom,
     pub kind: Kind,
     pub literal: Literal,
     pub clause: u8,
     pub number: u8,
-    pub sign: bool,
+    pub sign: u8,
     pub count: u8,
-    pub spare: u16,
+    pub brought: u8,
+    pub spare: u8,
     pub instance: [u8; MOST_VARIABLES],
 }
 
@@ -82,8 +86,9 @@ pub fn blank_entry() -> Entry
         literal: literal,
         clause: 0,
         number: 0,
-        sign: false,
+        sign: 0,
         count: 0,
+        brought: 0,
         spare: 0,
         instance: instance,
     }
@@ -106,6 +111,7 @@ fn is_literal(e: Entry, l: Literal) -> bool
     let m = e.literal;
     match kind {
         Kind::Background => false,
+        Kind::Brought => false,
         Kind::Propagated => same_literal(l, m),
         Kind::Decided => same_literal(l, m),
     }
@@ -117,6 +123,7 @@ pub fn is_decision(e: Entry) -> bool
     let kind = e.kind;
     match kind {
         Kind::Background => false,
+        Kind::Brought => false,
         Kind::Propagated => false,
         Kind::Decided => true,
     }
@@ -294,13 +301,42 @@ pub fn levels(trail: [Entry; MOST_ENTRIES], length: u8, n: Instanced, l: u8) -> 
 
 // ---- entries that the rules append
 
-// An atom that they append
+// An atom that Propagate and Backtrack append
 pub fn background_entry(a: Atom) -> Entry
-    ensures { λ r. ⌜ Recorded r (background a) ⌝ }
+    ensures { λ r. ⌜ Recorded r (background a none) ⌝ }
 {
     let mut e = blank_entry();
     e.atom = a;
     e
+}
+
+// An atom that a decision brings, with its source
+pub fn brought_entry(
+    a: Atom,
+    clause: u8,
+    number: u8,
+    sign: u8,
+    instance: [u8; MOST_VARIABLES],
+    count: u8,
+) -> Entry
+    ensures { λ r. ⌜ Recorded r (background a (some (record { clause = clause; number = number; sign = sign; instance = take count instance }))) ⌝ }
+{
+    let literal = no_literal();
+    let constants = first_constants(instance, count);
+    let n = constants_of(instance, count);
+    let kind = Kind::Brought;
+    Entry {
+        kind: kind,
+        atom: a,
+        literal: literal,
+        clause: clause,
+        number: number,
+        sign: sign,
+        count: n as u8,
+        brought: 0,
+        spare: 0,
+        instance: constants,
+    }
 }
 
 // The entry that Propagate and Backtrack append
@@ -323,23 +359,35 @@ pub fn propagated_entry(
         literal: l,
         clause: clause,
         number: number,
-        sign: false,
+        sign: 0,
         count: n as u8,
+        brought: 0,
         spare: 0,
         instance: constants,
     }
 }
 
-// The entry that Decide appends
+// Decide's sign as a number: 1 positive, 0 negative
+fn sign_of(positive: bool) -> u8
+    ensures { λ r. ⌜ r ≡ cond positive 1 0 ⌝ }
+{
+    if positive {
+        return 1;
+    }
+    0
+}
+
+// The entry of the literal that Decide appends, with how many atoms it brings
 pub fn decided_entry(
     l: Literal,
     clause: u8,
     number: u8,
-    sign: bool,
+    positive: bool,
     instance: [u8; MOST_VARIABLES],
     count: u8,
+    brought: u8,
 ) -> Entry
-    ensures { λ r. ⌜ Recorded r (foreground l (decided clause number sign (take count instance))) ⌝ }
+    ensures { λ r. ⌜ Recorded r (foreground l (decided clause number positive (take count instance) brought)) ⌝ }
 {
     let atom = no_atom();
     let constants = first_constants(instance, count);
@@ -351,8 +399,9 @@ pub fn decided_entry(
         literal: l,
         clause: clause,
         number: number,
-        sign: sign,
+        sign: sign_of(positive),
         count: n as u8,
+        brought: brought,
         spare: 0,
         instance: constants,
     }

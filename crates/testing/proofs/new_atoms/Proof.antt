@@ -14,7 +14,7 @@ use Rattle.lists.specs.Lists.{anyOf}
 use Rattle.calculus.specs.Clauses.{sameAtom}
 use Rattle.instances.proofs.Others.{stored-more}
 use Rattle.testing.specs.New.{newAtoms}
-use Rattle.testing.proofs.New.{known-turn, new-listed, new-none, new-turn}
+use Rattle.testing.proofs.New.{known-turn, atoms-packed, new-none, new-turn}
 use Rattle.testing.proofs.new_atoms.Statement.{statement}
 use Rattle.testing.proofs.new_atoms.Tie as tie
 
@@ -101,7 +101,7 @@ returns c =
     let args = c .before .before .before .before .before .before .args in
     let atoms = c .before .atoms in
     let end : atoms .j ≡ args .tested .count = omega arith in
-    new-listed _ (rw end at (atoms .inv .3)) (rw end at (atoms .inv .4))
+    atoms-packed _ (rw end at (atoms .inv .3)) (rw end at (atoms .inv .4))
 
 pub new-atoms-spec : {M : Type 1} → statement M
 new-atoms-spec =

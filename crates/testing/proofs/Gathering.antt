@@ -1,55 +1,57 @@
 -- Atoms gathered entry by entry and atom by atom, and what the record of them says.
 use mathlib.Core.Path.{_∙_, _≡_, ap, ap₂, refl, subst, sym}
-use mathlib.Core.List.{List, [], _++_, _∷_, append-assoc, append-nil, map}
+use mathlib.Core.List.{List, [], _++_, _∷_, append-assoc, append-nil}
 use mathlib.Core.Bool.{false, true}
 use Prim.Native.Nat.{_+_, _<_, _≤_, suc, zero, ℕ}
 use native.Mathlib.Numerals.{add-one}
 use native.Mathlib.Omega.{arith}
-use lib.ListN.{drop, getD, length, length-append, take}
-use lib.Seq.{drop-at, take-at, take-take}
+use lib.ListN.{drop, getD, length, length-append, length-take, take, take-append-drop}
+use lib.Seq.{drop-append-le, drop-at, getD-take, split-at, take-at, take-take}
 use Rattle.basis.specs.Atoms.{noAtom}
 use Rattle.basis.specs.Limits.{mostAtoms, mostEntries, mostTested}
 use Rattle.basis.specs.declared.Atom.{Atom}
 use Rattle.lists.proofs.Arrays.{take-exactly}
-use Rattle.lists.proofs.Walks.{map-more}
+use Rattle.lists.proofs.Walks.{take-more}
 use Rattle.lists.specs.Arrays.{exactly}
 use Rattle.calculus.specs.Trails as calculus
 use Rattle.calculus.specs.Trails.{Trail, atomsOf, background, foreground}
 use Rattle.trail.specs.Entries.{entryAs, entryOf, pastEnd, trailOf}
 use Rattle.trail.specs.declared.Entry.{Entry}
 use Rattle.trail.specs.declared.Kind.{Kind}
-use Rattle.trail.specs.declared.Kind.the-variants.{Background, Propagated, Decided}
+use Rattle.trail.specs.declared.Kind.the-variants.{Background, Brought, Propagated, Decided}
 use Rattle.testing.specs.Asked.{Gathers, GathersOnce, InRoom, isBackground, knownAtoms, stepAtoms, testedAtoms}
+use Rattle.testing.specs.New.{listed, packedAtoms}
+use Rattle.testing.specs.declared.Atoms.{Atoms}
 use Rattle.testing.specs.declared.Tested.{Tested}
 
 -- ---- the walks
 
-background-is : (e : Entry) → isBackground (entryOf e) ≡ true → entryOf e ≡ background (e .atom)
-background-is e h = go (e .kind) h
+atom-of : (e : Entry) (t : Trail) → isBackground (entryOf e) ≡ true → atomsOf (entryOf e ∷ t) ≡ atomsOf t ++ (e .atom ∷ [])
+atom-of e t h = go (e .kind) h
   where
-    go : (k : Kind) → isBackground (entryAs k e) ≡ true → entryAs k e ≡ background (e .atom)
+    go : (k : Kind) → isBackground (entryAs k e) ≡ true → atomsOf (entryAs k e ∷ t) ≡ atomsOf t ++ (e .atom ∷ [])
     go Background h = refl
+    go Brought h = refl
     go Propagated h = absurd (let z : _≡_ {A = ℕ} 0 1 = cc in omega arith)
     go Decided h = absurd (let z : _≡_ {A = ℕ} 0 1 = cc in omega arith)
 
 no-atom-of : (e : calculus.Entry) (t : Trail) → isBackground e ≡ false → atomsOf (e ∷ t) ≡ atomsOf t
 no-atom-of (foreground l o) t h = refl
-no-atom-of (background a) t h = absurd (let z : _≡_ {A = ℕ} 0 1 = cc in omega arith)
+no-atom-of (background a o) t h = absurd (let z : _≡_ {A = ℕ} 0 1 = cc in omega arith)
 
 -- The next entry is an atom, or it has none.
 pub atoms-turn : (es : List Entry) (k : ℕ) → isBackground (entryOf (getD es k pastEnd)) ≡ true
     → atomsOf (trailOf es (k + 1)) ≡ atomsOf (trailOf es k) ++ (getD es k pastEnd .atom ∷ [])
-atoms-turn es k b = ap (λ n. atomsOf (trailOf es n)) (add-one k) ∙ ap (λ x. atomsOf (x ∷ trailOf es k)) (background-is (getD es k pastEnd) b)
+atoms-turn es k b = ap (λ n. atomsOf (trailOf es n)) (add-one k) ∙ atom-of (getD es k pastEnd) (trailOf es k) b
 
 pub atoms-skip : (es : List Entry) (k : ℕ) → isBackground (entryOf (getD es k pastEnd)) ≡ false → atomsOf (trailOf es (k + 1)) ≡ atomsOf (trailOf es k)
 atoms-skip es k b = ap (λ n. atomsOf (trailOf es n)) (add-one k) ∙ no-atom-of (entryOf (getD es k pastEnd)) (trailOf es k) b
 
--- The clause's atoms follow.
-pub atoms-more : (f : Atom → Atom) (l : List Atom) (j : ℕ) (d : Atom) (before : List Atom) → j < length l
-    → before ++ map f (take (j + 1) l) ≡ (before ++ map f (take j l)) ++ (f (getD l j d) ∷ [])
-atoms-more f l j d before h = ap (λ r. before ++ r) (map-more f l j d h) ∙ sym (append-assoc before (map f (take j l)) (f (getD l j d) ∷ []))
+-- The step's atoms follow.
+pub atoms-more : (before l : List Atom) (j : ℕ) → j < length l → before ++ take (j + 1) l ≡ (before ++ take j l) ++ (getD l j noAtom ∷ [])
+atoms-more before l j h = ap (λ r. before ++ r) (take-more l j noAtom h) ∙ sym (append-assoc before (take j l) (getD l j noAtom ∷ []))
 
--- What stands first in the array; at first with nothing of the clause's behind it
+-- What stands first in the array; at first with nothing of the step's behind it
 gathered-are : (n : ℕ) (at ts : List Atom) → n ≡ length ts → at ≡ exactly mostTested noAtom ts → length ts ≤ mostTested → take n at ≡ ts
 gathered-are n at ts p q h = ap₂ (λ (k : ℕ) r. take k r) p q ∙ take-exactly noAtom mostTested ts h
 
@@ -62,7 +64,7 @@ atoms-few es (suc k) = omega (arith, go (entryOf (getD es k pastEnd)) (trailOf e
   where
     go : (e : calculus.Entry) (t : Trail) → length (atomsOf (e ∷ t)) ≤ suc (length (atomsOf t))
     go (foreground l o) t = omega arith
-    go (background a) t = omega (arith, length-append (atomsOf t) (a ∷ []))
+    go (background a o) t = omega (arith, length-append (atomsOf t) (a ∷ []))
 
 -- Both gathered, the trail's first
 pub gathered-all : {n m : ℕ} {before after ts az : List Atom} → n ≡ length ts → before ≡ exactly mostTested noAtom ts → length ts ≤ mostEntries → length az ≤ mostAtoms
@@ -72,6 +74,22 @@ gathered-all {n} {m} {before} {after} {ts} {az} p q few few-step e f =
     let count : m ≡ length (ts ++ az) = e ∙ ap (λ r. length (r ++ az)) first in
     let atoms : after ≡ exactly mostTested noAtom (ts ++ az) = f ∙ ap (λ r. exactly mostTested noAtom (r ++ az)) first in
     record { few-known = few; few-step = few-step; packed = λ i. record { known = p i; count = count i; atoms = atoms i } }
+
+-- ---- the known atoms, which are the first i, and behind them the step's up to the first j
+
+module _ (l : List Atom) (i j : ℕ) (h : i ≤ j) where
+  pub both-parts : take i l ++ drop i (take j l) ≡ take j l
+  both-parts = ap (λ r. r ++ drop i (take j l)) (sym (take-take i j l h)) ∙ take-append-drop i (take j l)
+
+  -- One more, and what may stand behind it
+  pub part-more : j < length l → drop i (take (j + 1) l) ≡ drop i (take j l) ++ (getD l j noAtom ∷ [])
+  part-more k = ap (drop i) (take-more l j noAtom k) ∙ drop-append-le i (take j l) (getD l j noAtom ∷ []) (omega (arith, length-take j l))
+
+  pub part-split : (n : ℕ) → j < n → n ≤ length l → drop i (take n l) ≡ drop i (take j l) ++ (getD l j noAtom ∷ drop (suc j) (take n l))
+  part-split n k m =
+      let rest = drop (suc j) (take n l) in
+      ap (drop i) (split-at (take n l) j noAtom (omega (arith, length-take n l)) ∙ ap₂ (λ r x. r ++ (x ∷ rest)) (take-take j n l (omega arith)) (getD-take n l j noAtom k))
+      ∙ drop-append-le i (take j l) (getD l j noAtom ∷ rest) (omega (arith, length-take j l))
 
 -- ---- what the record says
 
@@ -97,3 +115,13 @@ module _ {t : Tested} {ts az : List Atom} (G : Gathers t ts az) where
 
 pub gathers-once : GathersOnce
 gathers-once t u ts az a b = a .packed ∙ sym (b .packed)
+
+-- ---- a step's record
+
+-- It lists its atoms, so they are those that are gathered.
+module _ {b : Atoms} {az : List Atom} (p : b ≡ packedAtoms az) (few : b .count ≤ mostAtoms) where
+  pub listed-says : listed b ≡ az
+  listed-says = ap listed p ∙ take-exactly noAtom mostAtoms az (omega (arith, ap (λ (q : Atoms). q .count) p))
+
+  pub gathers-listed : {t : Tested} {ts : List Atom} → Gathers t ts (listed b) → Gathers t ts az
+  gathers-listed {t} {ts} = subst (Gathers t ts) listed-says
