@@ -29,15 +29,15 @@ use Rattle.calculus.specs.States.{Backtrack, State, clauses, conflictOf}
 use Rattle.calculus.specs.Trails.{Trail, atomsOf, cut, foreground, levelOf, propagated}
 use Rattle.clauses.specs.Records.{instancedOf, packedInstanced}
 use Rattle.clauses.specs.declared.Instanced.{Instanced}
-use Rattle.rules.proofs.Reached.{kept-proper}
-use Rattle.rules.proofs.Runs.{clauses-is, conflict-says, constants-is, fine, fine-conflict, input-is, learned-is, packed-as, standing, stands-is, stored}
+use Rattle.reaching.proofs.Reached.{kept-proper}
+use Rattle.rules.proofs.Runs.{clauses-is, conflict-says, constants-is, fine, fine-conflict, input-is, learned-is, packed-as, standing, stands-is, stored, version-is}
 use Rattle.rules.proofs.Testing.{decides, hands}
 use Rattle.rules.proofs.Told.{accepted-as, refused, refused-by}
-use Rattle.testing.proofs.Atoms.{known-says, step-says, tested-says}
+use Rattle.testing.proofs.Gathering.{known-says, step-says, tested-says}
 use Rattle.testing.proofs.New.{propagated-new, pushed-length}
 use Rattle.testing.specs.Asked.{Gathers, WitnessOf, knownAtoms, stepAtoms, testedAtoms}
-use Rattle.testing.specs.New.{newAtoms, packedNew, pushedAtoms}
-use Rattle.testing.specs.declared.NewAtoms.{NewAtoms}
+use Rattle.testing.specs.New.{newAtoms, packedAtoms, pushedAtoms}
+use Rattle.testing.specs.declared.Atoms.{Atoms}
 use Rattle.testing.specs.declared.Tested.{Tested}
 use Rattle.trail.proofs.Stored.{cut-first, kept-few, stored-own}
 use Rattle.trail.proofs.Walks.{trail-length}
@@ -112,7 +112,7 @@ module _ {r : Run} {s : State} (R : RunOf r s) (l : ℕ) where
           backtrack-impossible : b .given ≡ false → Told s (Backtrack l) (refusedBy r keptNotPossible)
           backtrack-impossible h = refused-by R (Backtrack l) (b .given) says keptNotPossible tt tt (simp (standing R e, exists h₁, again-is h₂, above, h))
 
-          module _ (h₄ : b .given ≡ true) (f : NewAtoms) (f-is : f ≡ packedNew (newAtoms (knownAtoms w) (stepAtoms w))) (g : Literal) (g-is : g ≡ literalInstance n l) where
+          module _ (h₄ : b .given ≡ true) (f : Atoms) (f-is : f ≡ packedAtoms (newAtoms (knownAtoms w) (stepAtoms w))) (g : Literal) (g-is : g ≡ literalInstance n l) where
             abbrev new : List Atom
             new = newAtoms (knownAtoms w) (stepAtoms w)
 
@@ -130,7 +130,7 @@ module _ {r : Run} {s : State} (R : RunOf r s) (l : ℕ) where
                 ∙ sym (propagated-new (N .clause) (l - 1) (N .instance) (propagated (suc (length (clauses s))) l (N .instance)) t₁)
 
             grown-length : length (next s (Backtrack l) .trail) ≡ v .kept + f .count + 1
-            grown-length = ap length (sym grown) ∙ pushed-length new (foreground g (propagated m l (n .instance)) ∷ u₁) ∙ omega (arith, ap (λ (q : NewAtoms). q .count) f-is, trail-length (r .trail) (v .kept))
+            grown-length = ap length (sym grown) ∙ pushed-length new (foreground g (propagated m l (n .instance)) ∷ u₁) ∙ omega (arith, ap (λ (q : Atoms). q .count) f-is, trail-length (r .trail) (v .kept))
 
             backtrack-long : mostEntries ≤ v .kept + f .count → Told s (Backtrack l) (refusedBy r noRoom)
             backtrack-long h = refused-by R (Backtrack l) (b .given) says noRoom tt tt (simp (standing R e, exists h₁, again-is h₂, above, h₄, lt-leb (length (next s (Backtrack l) .trail)) mostEntries (omega (arith, grown-length))))
@@ -148,14 +148,14 @@ module _ {r : Run} {s : State} (R : RunOf r s) (l : ℕ) where
                   subst (λ (i : ℕ). Told s (Backtrack l) (record { run = appendedAt (backtracked (v .others) blank r) (v .kept) o f m b .run; number = accepted; place = 0; learned = i; witness = b })) (sym number)
                   (accepted-as R (Backtrack l) (b .given) says
                   (simp (standing R e, exists h₁, again-is h₂, above, h₄, fits, le-leb (suc (length (s .learned))) mostLearned (omega (arith, learned-is R))) (tt, (tt, (tt, (tt, (tt, (tt, tt))))))) (hands R (Backtrack l) d together refl h₄)
-                  _ (packed-as (next s (Backtrack l)) (constants-is R) (input-is R) (omega (arith, learned-is R, length-append (s .learned) (N .clause ∷ []))) back-is refl
+                  _ (packed-as (next s (Backtrack l)) (version-is R) (constants-is R) (input-is R) (omega (arith, learned-is R, length-append (s .learned) (N .clause ∷ []))) back-is refl
                   (subst (Stored (appendedAt r (v .kept) o f m b .run .trail) (v .kept + f .count + 1)) grown (appended-stored f new f-is (few-new G f-is) h₅ (cut-stored (r .trail) (r .length) (v .kept) (kept-below r l v-is) (stored-own (stored R))) E)) none))
 
   module _ (a b : Bool) (a-is : a ≡ literalExists (instancedOf (r .conflict) .clause) l)
       (b-is : b ≡ anyOf (sameLiteral (literalInstance (instancedOf (r .conflict)) l)) (otherInstances (instancedOf (r .conflict)) l))
       (v : LevelsSeen) (v-is : v ≡ levelsSeen (instancedOf (r .conflict)) l (trailOf (r .trail) (r .length))) (w : Tested)
       (G : Gathers w (atomsOf (trailOf (r .trail) (v .kept))) (groundAtoms (instancedOf (r .conflict) .instance) (instancedOf (r .conflict) .clause .atoms))) (p : Witness) (d : WitnessOf (r .constants) (testedAtoms w) p)
-      (f : NewAtoms) (f-is : f ≡ packedNew (newAtoms (knownAtoms w) (stepAtoms w))) {n n₁ n₂ n₃ n₄ n₅ n₆ : ℕ} (e₆ : n₆ ≡ cond (ltb (r .learned) mostLearned) 0 noRoom)
+      (f : Atoms) (f-is : f ≡ packedAtoms (newAtoms (knownAtoms w) (stepAtoms w))) {n n₁ n₂ n₃ n₄ n₅ n₆ : ℕ} (e₆ : n₆ ≡ cond (ltb (r .learned) mostLearned) 0 noRoom)
       (e₅ : n₅ ≡ cond (ltb (v .kept + f .count) mostEntries) n₆ noRoom) (e₄ : n₄ ≡ cond (p .given) n₅ keptNotPossible) (e₃ : n₃ ≡ cond (ltb (v .others) (v .own)) n₄ notAbove) (e₂ : n₂ ≡ cond (not b) n₃ wrongLiteral)
       (e₁ : n₁ ≡ cond a n₂ noSuch) (e₀ : n ≡ cond (r .stands) n₁ wrongMoment) where
     pub backtrack-refused : ¬ (n ≡ 0) → Told s (Backtrack l) (refusedBy r n)

@@ -30,7 +30,7 @@ use Rattle.calculus.specs.States.{Conflict, State, Step, clauseAt, clauses, sta
 use Rattle.calculus.specs.Trails.{atomsOf}
 use Rattle.clauses.specs.Records.{clauseOf, packed}
 use Rattle.rules.proofs.Naming.{and-true, asked-is, instance-is, instance-long, instance-short, looks-named, named-packed, named-there}
-use Rattle.rules.proofs.Reached.{named-proper}
+use Rattle.reaching.proofs.Reached.{named-proper}
 use Rattle.rules.proofs.Runs.{fine, standing, stands-is, with-conflict}
 use Rattle.rules.proofs.Testing.{carry, decides, hands, not-zero, tested}
 use Rattle.rules.proofs.Told.{accepted-as, refused, refused-at, refused-by}

@@ -1,7 +1,5 @@
 -- Why each rule's answer is the calculus's.
-pub mod Reached
 pub mod Runs
-pub mod Handing
 pub mod Told
 pub mod Once
 pub mod Asking

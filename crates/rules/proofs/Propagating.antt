@@ -34,15 +34,15 @@ use Rattle.calculus.specs.Trails.{atomsOf, foreground, propagated, undefined}
 use Rattle.clauses.specs.Records.{clauseOf, packed, packedInstanced}
 use Rattle.rules.proofs.Growing.{appended-stored, cut-stored, few-new}
 use Rattle.rules.proofs.Naming.{and-true, asked-is, instance-is, instance-long, instance-short, looks-named, named-there}
-use Rattle.rules.proofs.Reached.{named-proper}
-use Rattle.rules.proofs.Runs.{conflict-is, constants-is, fine, input-is, learned-is, level-is, no-conflict, packed-as, standing, stands-is, stored}
+use Rattle.reaching.proofs.Reached.{named-proper, no-conflict}
+use Rattle.rules.proofs.Runs.{conflict-is, constants-is, fine, input-is, learned-is, level-is, packed-as, standing, stands-is, stored, version-is}
 use Rattle.rules.proofs.Testing.{carry, decides, hands, not-zero, tested}
 use Rattle.rules.proofs.Told.{accepted-as, refused, refused-at, refused-by}
-use Rattle.testing.proofs.Atoms.{known-says, step-says}
+use Rattle.testing.proofs.Gathering.{known-says, step-says}
 use Rattle.testing.proofs.New.{propagated-new, pushed-length}
 use Rattle.testing.specs.Asked.{Gathers, WitnessOf, knownAtoms, stepAtoms, testedAtoms}
-use Rattle.testing.specs.New.{newAtoms, packedNew, pushedAtoms}
-use Rattle.testing.specs.declared.NewAtoms.{NewAtoms}
+use Rattle.testing.specs.New.{newAtoms, packedAtoms, pushedAtoms}
+use Rattle.testing.specs.declared.Atoms.{Atoms}
 use Rattle.testing.specs.declared.Tested.{Tested}
 use Rattle.trail.proofs.NotFalse.{its-number, none-fails, one-fails}
 use Rattle.trail.proofs.Stored.{stored-own}
@@ -135,7 +135,7 @@ module _ {r : Run} {s : State} (R : RunOf r s) (k : Looked) (c l count : ℕ) (�
             propagate-impossible : b .given ≡ false → Told s (Propagate c l (exactly count 0 ι)) (refusedBy r notPossible)
             propagate-impossible h = given (refused-by R x (b .given) says notPossible tt tt (simp (short, free, named h₃, open-yet h₄, others, h)))
 
-            module _ (h₆ : b .given ≡ true) (f : NewAtoms) (f-is : f ≡ packedNew (newAtoms (knownAtoms w) (stepAtoms w))) where
+            module _ (h₆ : b .given ≡ true) (f : Atoms) (f-is : f ≡ packedAtoms (newAtoms (knownAtoms w) (stepAtoms w))) where
               abbrev new : List Atom
               new = newAtoms (knownAtoms w) (stepAtoms w)
 
@@ -148,7 +148,7 @@ module _ {r : Run} {s : State} (R : RunOf r s) (k : Looked) (c l count : ℕ) (�
 
               grown-length : length (next s x .trail) ≡ r .length + f .count + 1
               grown-length = ap length grown ∙ pushed-length new (foreground m (propagated c l τ) ∷ trailOf (r .trail) (r .length))
-                  ∙ omega (arith, ap (λ (q : NewAtoms). q .count) f-is, trail-length (r .trail) (r .length))
+                  ∙ omega (arith, ap (λ (q : Atoms). q .count) f-is, trail-length (r .trail) (r .length))
 
               propagate-no-room : mostEntries ≤ r .length + f .count → Told s (Propagate c l (exactly count 0 ι)) (refusedBy r noRoom)
               propagate-no-room h = given (refused-by R x (b .given) says noRoom tt tt (simp (short, free, named h₃, open-yet h₄, others, h₆, lt-leb (length (next s x .trail)) mostEntries (omega (arith, grown-length)))))
@@ -156,7 +156,7 @@ module _ {r : Run} {s : State} (R : RunOf r s) (k : Looked) (c l count : ℕ) (�
               propagate-accepted : r .length + f .count < mostEntries → (e : Entry) → Recorded e (foreground m (propagated c l τ)) → Told s (Propagate c l (exactly count 0 ι)) (appendedAt r (r .length) e f 0 b)
               propagate-accepted h e E = given (accepted-as R x (b .given) says
                   (simp (short, free, named h₃, open-yet h₄, others, h₆, le-leb (length (next s x .trail)) mostEntries (omega (arith, grown-length))) (tt, (tt, (tt, (tt, (tt, (tt, (tt, tt)))))))) (hands R x d together refl h₆)
-                  _ (packed-as (next s x) (constants-is R) (input-is R) (learned-is R) (level-is R) h₂
+                  _ (packed-as (next s x) (version-is R) (constants-is R) (input-is R) (learned-is R) (level-is R) h₂
                   (subst (Stored (appendedAt r (r .length) e f 0 b .run .trail) (r .length + f .count + 1)) (sym grown) (appended-stored f new f-is (few-new G f-is) h (cut-stored (r .trail) (r .length) (r .length) (omega arith) (stored-own (stored R))) E))
                   (conflict-is R ∙ ap (λ (q : Option calculus.Instanced). packedInstanced (conflictOf q)) (no-conflict (s .conflict) free))))
 
@@ -164,7 +164,7 @@ module _ {r : Run} {s : State} (R : RunOf r s) (k : Looked) (c l count : ℕ) (�
       (a-is : a ≡ (leb count mostVariables && (between 1 (r .input + r .learned) c && (literalExists (clauseOf (k .clause)) l && instanceFits (r .constants) (clauseOf (k .clause)) (take count ι)))))
       (m : Literal) (m-is : m ≡ ground (take count ι) (getD (clauseOf (k .clause) .literals) (l - 1) noLiteral)) (v : LiteralsSeen) (v-is : v ≡ literalsSeen (trailOf (r .trail) (r .length)) (clauseOf (k .clause)) (take count ι) true m)
       (w : Tested) (G : Gathers w (atomsOf (trailOf (r .trail) (r .length))) (groundAtoms (take count ι) (clauseOf (k .clause) .atoms))) (b : Witness) (d : WitnessOf (r .constants) (testedAtoms w) b)
-      (f : NewAtoms) (f-is : f ≡ packedNew (newAtoms (knownAtoms w) (stepAtoms w))) {n n₁ n₂ n₃ n₄ n₅ n₆ : ℕ}
+      (f : Atoms) (f-is : f ≡ packedAtoms (newAtoms (knownAtoms w) (stepAtoms w))) {n n₁ n₂ n₃ n₄ n₅ n₆ : ℕ}
       (e₆ : n₆ ≡ cond (ltb (r .length + f .count) mostEntries) 0 noRoom) (e₅ : n₅ ≡ cond (b .given) n₆ notPossible) (e₄ : n₄ ≡ cond (eqb (v .first) 0) n₅ notFalse) (e₃ : n₃ ≡ cond (v .free) n₄ alreadyDefined)
       (e₂ : n₂ ≡ cond a n₃ noSuch) (e₁ : n₁ ≡ cond (not (r .stands)) n₂ wrongMoment) (e₀ : n ≡ cond (leb count mostVariables) n₁ aboveLimit) where
     is-named : leb count mostVariables ≡ true → {q : Bool} → a ≡ q

@@ -41,17 +41,18 @@ use Rattle.joining.specs.declared.Merged.{Merged}
 use Rattle.merging.proofs.Own.{stay-few}
 use Rattle.merging.proofs.Whole.{merge-limits}
 use Rattle.merging.specs.Results.{reasonOf, resolved}
-use Rattle.rules.proofs.Reached.{AllFine, Fine}
+use Rattle.reaching.proofs.Reached.{AllFine, Fine}
 use Rattle.rules.proofs.Asking.{as-told, asked, either-told, no-place, passed}
 use Rattle.rules.proofs.Naming.{looks-named}
 use Rattle.rules.proofs.Runs.{conflict-is, conflict-says, fine, fine-conflict, last-shown, none-shown, stands-shown, with-conflict, within}
-use Rattle.rules.proofs.Told.{accepted-as, hands-none, nothing-asked, refused}
+use Rattle.reaching.proofs.Handing.{hands-none, nothing-asked}
+use Rattle.rules.proofs.Told.{accepted-as, refused}
 use Rattle.trail.specs.Entries.{entryAs, entryOf, pastEnd, trailOf}
 use Rattle.trail.specs.declared.Kind.{Kind}
 use Rattle.merging.specs.declared.Reason as reasons
 use Rattle.calculus.specs.Clauses as calculus
 use Rattle.trail.specs.declared.Entry as entries
-use Rattle.trail.specs.declared.Kind.the-variants.{Background, Propagated, Decided}
+use Rattle.trail.specs.declared.Kind.the-variants.{Background, Brought, Propagated, Decided}
 use Rattle.constraint.specs.Witnesses.{packedWitness}
 
 -- ---- the reason has room
@@ -84,11 +85,13 @@ last-propagated e t = go (e .kind)
   where
     go : (k : Kind) → lastIsPropagated (entryAs k e ∷ t) ≡ isPropagated k
     go Background = refl
+    go Brought = refl
     go Propagated = refl
     go Decided = refl
 
 kind-propagated : (k : Kind) → isPropagated k ≡ true → k ≡ Propagated
 kind-propagated Background e = absurd (let z : _≡_ {A = ℕ} 0 1 = cc in omega arith)
+kind-propagated Brought e = absurd (let z : _≡_ {A = ℕ} 0 1 = cc in omega arith)
 kind-propagated Propagated e = refl
 kind-propagated Decided e = absurd (let z : _≡_ {A = ℕ} 0 1 = cc in omega arith)
 

@@ -1,7 +1,7 @@
 -- A run record read as the state that it is the record of.
 use mathlib.Core.Path.{_∙_, _≡_, ap, refl, subst, sym}
 use mathlib.Core.List.{List, [], _∷_}
-use mathlib.Core.Option.{Option, none, some}
+use mathlib.Core.Option.{Option, some}
 use mathlib.Core.Bool.{Bool, _&&_, false, true}
 use Prim.Native.Nat.{_+_, _-_, _<_, _≤_, suc, zero, ℕ}
 use native.Mathlib.Omega.{arith}
@@ -24,21 +24,14 @@ use Rattle.clauses.proofs.Records.{packed-instanced-says, packed-says}
 use Rattle.clauses.specs.Records.{clauseOf, instancedOf, packed, packedInstanced}
 use Rattle.clauses.specs.declared.Clause.{Clause}
 use Rattle.clauses.specs.declared.Instanced.{Instanced}
-use Rattle.rules.proofs.Reached.{FineConflict, FineState, decisions-few, fine-short, reached-fine}
+use Rattle.deciding.specs.Weighing.{PartsOf}
+use Rattle.reaching.proofs.Reached.{FineConflict, FineState, decisions-few, fine-short, no-conflict, reached-fine, some-conflict}
 use Rattle.trail.proofs.Stored.{packed-length, packed-stored, stored-length}
 use Rattle.trail.specs.Entries.{Stored, entryOf, pastEnd, trailOf}
 use Rattle.trail.specs.declared.Entry as entries
 use Rattle.calculus.specs.Clauses as calculus
 
 -- ---- what the records of clauses say
-
-pub some-conflict : (c : Option calculus.Instanced) → stands c ≡ true → c ≡ some (conflictOf c)
-some-conflict none e = absurd (let z : _≡_ {A = ℕ} 0 1 = cc in omega arith)
-some-conflict (some N) e = refl
-
-pub no-conflict : (c : Option calculus.Instanced) → stands c ≡ false → c ≡ none
-no-conflict none e = refl
-no-conflict (some N) e = absurd (let z : _≡_ {A = ℕ} 0 1 = cc in omega arith)
 
 conflict-said : (b : Bool) (n : Instanced) (c : Option calculus.Instanced) → b ≡ stands c → (b ≡ true → instancedOf n ≡ conflictOf c) → conflictSaid b n ≡ c
 conflict-said true n c e h = ap (λ N. some N) (h refl) ∙ sym (some-conflict c (sym e))
@@ -54,6 +47,9 @@ module _ {r : Run} {s : State} (R : RunOf r s) where
 
   pub stands-is : r .stands ≡ stands (s .conflict)
   stands-is = ap (λ (q : Run). q .stands) (R .is)
+
+  pub version-is : r .version ≡ s .version
+  version-is = ap (λ (q : Run). q .version) (R .is)
 
   pub constants-is : r .constants ≡ s .constants
   constants-is = ap (λ (q : Run). q .constants) (R .is)
@@ -93,9 +89,22 @@ module _ {r : Run} {s : State} (R : RunOf r s) where
   pub clause-says : (c : ℕ) (k : Clause) → T (clauseExists (clauses s) c) → k ≡ packed (clauseAt (clauses s) c) → clauseOf k ≡ clauseAt (clauses s) c
   clause-says c k h e = ap clauseOf e ∙ packed-says (clauseAt (clauses s) c) (fine .limited (clauseAt (clauses s) c) (clause-held (clauses s) c h))
 
+-- What Decide's weighing is shown
+pub shown : {r : Run} {s : State} → RunOf r s → PartsOf (r .trail) (r .length) (r .constants) (r .input) (r .learned) (r .stands) (r .version) s
+shown R = record {
+  reached = R .reached;
+  trail-is = ap (λ (q : Run). q .trail) (R .is);
+  count-is = ap (λ (q : Run). q .length) (R .is);
+  constants-is = constants-is R;
+  input-is = input-is R;
+  learned-is = learned-is R;
+  stands-is = stands-is R;
+  version-is = version-is R;
+}
+
 -- The run with other constants, level, trail and conflict
 abbrev pub remade : Run → (constants level length : ℕ) → List entries.Entry → Instanced → Run
-remade r m k n t f = record { constants = m; input = r .input; learned = r .learned; level = k; length = n; stands = r .stands; trail = t; conflict = f }
+remade r m k n t f = record { version = r .version; constants = m; input = r .input; learned = r .learned; level = k; length = n; stands = r .stands; trail = t; conflict = f }
 
 -- .. with another trail array
 abbrev pub restored : Run → List entries.Entry → Run
@@ -106,10 +115,10 @@ abbrev pub accepting : Run → Witness → Stepped
 accepting q w = record { run = q; number = accepted; place = 0; learned = 0; witness = w }
 
 -- A run record that is that of a state, part by part
-pub packed-as : {q : Run} (s : State) → q .constants ≡ s .constants → q .input ≡ length (s .input) → q .learned ≡ length (s .learned) → q .level ≡ s .level → q .stands ≡ stands (s .conflict)
+pub packed-as : {q : Run} (s : State) → q .version ≡ s .version → q .constants ≡ s .constants → q .input ≡ length (s .input) → q .learned ≡ length (s .learned) → q .level ≡ s .level → q .stands ≡ stands (s .conflict)
     → Stored (q .trail) (q .length) (s .trail) → q .conflict ≡ packedInstanced (conflictOf (s .conflict)) → q ≡ packedRun s
-packed-as {q} s constants input learned level stand trail conflict =
-    λ i. record { constants = constants i; input = input i; learned = learned i; level = level i; length = sym (stored-length trail) i; stands = stand i; trail = trail .packed i; conflict = conflict i }
+packed-as {q} s version constants input learned level stand trail conflict =
+    λ i. record { version = version i; constants = constants i; input = input i; learned = learned i; level = level i; length = sym (stored-length trail) i; stands = stand i; trail = trail .packed i; conflict = conflict i }
 
 -- ---- limits
 
@@ -142,7 +151,7 @@ split-last es (suc n) h = let e : n ≡ suc n - 1 = omega arith in ap (λ (k : �
 module _ {r : Run} {s : State} (R : RunOf r s) where
   -- A state with another conflict
   pub with-conflict : (n : Instanced) (w : Witness) (N : calculus.Instanced) → n ≡ packedInstanced N → takenUp r n w .run ≡ packedRun (updated s (s .trail) (s .level) (some N))
-  with-conflict n w N h = packed-as (updated s (s .trail) (s .level) (some N)) (constants-is R) (input-is R) (learned-is R) (level-is R) refl (stored R) h
+  with-conflict n w N h = packed-as (updated s (s .trail) (s .level) (some N)) (version-is R) (constants-is R) (input-is R) (learned-is R) (level-is R) refl (stored R) h
 
 -- ---- what a run shows
 

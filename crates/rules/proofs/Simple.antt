@@ -29,9 +29,11 @@ use Rattle.clauses.specs.declared.Instanced.{Instanced}
 use Rattle.joining.specs.Fitted.{fitted}
 use Rattle.joining.specs.declared.Merged.{Merged}
 use Rattle.merging.specs.Results.{factorized}
-use Rattle.rules.proofs.Runs.{accepting, conflict-is, conflict-says, constants-is, fine, fine-conflict, input-is, last-shown, learned-is, level-is, no-conflict, none-shown, packed-as, remade, stands-is, stands-shown, stored, with-conflict, within}
+use Rattle.rules.proofs.Runs.{accepting, conflict-is, conflict-says, constants-is, fine, fine-conflict, input-is, last-shown, learned-is, level-is, none-shown, packed-as, remade, stands-is, stands-shown, stored, version-is, with-conflict, within}
+use Rattle.reaching.proofs.Handing.{hands-none, nothing-asked}
+use Rattle.reaching.proofs.Reached.{no-conflict}
 use Rattle.rules.proofs.Asking.{as-told, asked, either-told, no-place, passed}
-use Rattle.rules.proofs.Told.{accepted-as, hands-none, nothing-asked, refused}
+use Rattle.rules.proofs.Told.{accepted-as, refused}
 use Rattle.trail.proofs.Stored.{dropped, stored-none, stored-own}
 use Rattle.trail.specs.Entries.{Stored, blankEntry, entryOf, packedTrail, pastEnd, trailOf}
 use Rattle.trail.specs.declared.Entry as entries
@@ -55,7 +57,7 @@ module _ {r : Run} {s : State} (R : RunOf r s) (n : ℕ) where
         → Told s (Grow n) (accepting (remade r (r .constants + n) 0 0 es (r .conflict)) w)
     grow-accepted h f es b w w-is = let free = stands-shown R e in accepted-as R (Grow n) true (nothing-asked s (Grow n) refl)
         (rw free tt, (le→leb 1 n h, (le→leb (s .constants + n) mostConstants (omega (arith, constants-is R, fine R .few-constants)), tt))) (hands-none s (Grow n) refl w-is)
-        _ (packed-as (next s (Grow n)) (ap (λ (m : ℕ). m + n) (constants-is R)) (input-is R) (learned-is R) refl e (rw b stored-none)
+        _ (packed-as (next s (Grow n)) (version-is R) (ap (λ (m : ℕ). m + n) (constants-is R)) (input-is R) (learned-is R) refl e (rw b stored-none)
         (conflict-is R ∙ ap (λ (c : Option calculus.Instanced). packedInstanced (conflictOf c)) (no-conflict (s .conflict) free)))
 
   module _ {k k₁ k₂ : ℕ} (e₂ : k₂ ≡ cond (leb (r .constants + n) mostConstants) 0 noRoom) (e₁ : k₁ ≡ cond (ltb 0 n) k₂ noSuch) (e₀ : k ≡ cond (not (r .stands)) k₁ wrongMoment) where
@@ -78,7 +80,7 @@ module _ {r : Run} {s : State} (R : RunOf r s) (n : ℕ) where
 -- Only the last entry is asked.
 last-asked : (N : calculus.Instanced) (e : Entry) (t : Trail) → complementInConflict N (e ∷ t) ≡ complementInConflict N (e ∷ [])
 last-asked N (foreground l o) t = refl
-last-asked N (background a) t = refl
+last-asked N (background a o) t = refl
 
 module _ {r : Run} {s : State} (R : RunOf r s) where
   skip-no-conflict : r .stands ≡ false → Told s Skip (refusedBy r wrongMoment)
@@ -106,7 +108,7 @@ module _ {r : Run} {s : State} (R : RunOf r s) where
           → (w : Witness) → w ≡ packedWitness none → Told s Skip (accepting (remade r (r .constants) m i (set (r .trail) i b) (r .conflict)) w)
       skip-accepted z m j b b-is w w-is = accepted-as R Skip true (nothing-asked s Skip refl)
           (rw (stands-shown R e) tt, (rw last tt, (rw last (rw (in-conflict z) tt), tt))) (hands-none s Skip refl w-is)
-          _ (packed-as (next s Skip) (constants-is R) (input-is R) (learned-is R) level (stands-is R) rest (conflict-is R))
+          _ (packed-as (next s Skip) (version-is R) (constants-is R) (input-is R) (learned-is R) level (stands-is R) rest (conflict-is R))
         where
           level : m ≡ levelAfterSkip (s .trail) (s .level)
           level = j ∙ ap (λ (n : ℕ). cond (isDecision (entryOf E)) (n - 1) n) (level-is R) ∙ sym (ap (λ (l : Trail). levelAfterSkip l (s .level)) last)

@@ -7,18 +7,18 @@ use Rattle.rules.proofs.Told.{refused}
 use Rattle.basis.specs.Refusals.{unknownRule}
 use Rattle.rules.specs.Answers.{Answered, Answers, Handed}
 use Rattle.rules.specs.Records.{refusedBy}
-use Rattle.asking.specs.Steps.{instanceOf, stepOf}
+use Rattle.asking.specs.Steps.{decideOf, instanceOf, stepOf}
 use Rattle.asking.specs.declared.Looked.{Looked}
 use Rattle.rules.specs.declared.Run.{Run}
 use Rattle.rules.specs.declared.Stepped.{Stepped}
-use Rattle.calculus.specs.States.{Backtrack, Conflict, Decide, Factorize, Grow, Propagate, Resolve, Skip, Step, Unknown}
+use Rattle.calculus.specs.States.{Backtrack, Conflict, Factorize, Grow, Propagate, Resolve, Skip, Step, Unknown}
 
 -- ---- by the rule number
 
 pub propagate-step : (x : steps.Step) → x .rule ≡ 1 → stepOf x ≡ Propagate (x .clause) (x .literal) (instanceOf x)
 propagate-step x e = rw e
 
-pub decide-step : (x : steps.Step) → x .rule ≡ 2 → stepOf x ≡ Decide (x .clause) (x .literal) (x .sign) (instanceOf x)
+pub decide-step : (x : steps.Step) → x .rule ≡ 2 → stepOf x ≡ decideOf x
 decide-step x e = rw e
 
 pub conflict-step : (x : steps.Step) → x .rule ≡ 3 → stepOf x ≡ Conflict (x .clause) (instanceOf x)

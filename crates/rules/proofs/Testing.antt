@@ -1,17 +1,19 @@
 -- What the constraint test says of a rule's question.
-use mathlib.Core.Path.{_∙_, _≡_, refl, subst, sym, transport}
+use mathlib.Core.Path.{_∙_, _≡_, ap, refl, subst, sym, transport}
 use mathlib.Core.Logic.{_↔_}
-use mathlib.Core.List.{List, List·Memᴰ, _++_}
+use mathlib.Core.List.{List, _++_}
 use mathlib.Core.Bool.{true}
-use Prim.Native.Nat.{_+_, _<_, ℕ}
+use Prim.Native.Nat.{_+_, _<_, _≤_, ℕ}
 use native.Mathlib.Omega.{arith}
 use lib.Dec.{T}
-use Rattle.basis.specs.Atoms.{Possible, Proper}
+use Rattle.basis.specs.Atoms.{Possible, noAtom}
+use Rattle.basis.specs.Limits.{mostAtoms}
 use Rattle.basis.specs.declared.Atom.{Atom}
 use Rattle.basis.specs.declared.Witness.{Witness}
 use Rattle.basis.specs.Numbers.{whole}
 use Rattle.rules.specs.Answers.{RunOf}
 use Rattle.rules.specs.declared.Run.{Run}
+use Rattle.lists.proofs.Arrays.{take-exactly}
 use Rattle.calculus.specs.Checks.{between}
 use Rattle.calculus.specs.Clauses.{groundAtoms}
 use Rattle.calculus.specs.Handing.{tests}
@@ -23,9 +25,12 @@ use Rattle.clauses.specs.Records.{clauseOf, packed}
 use Rattle.clauses.specs.declared.Clause.{Clause}
 use Rattle.rules.proofs.Naming.{named-says}
 use Rattle.rules.proofs.Runs.{constants-is, fine, stored}
-use Rattle.rules.proofs.Told.{HandsBy, hands-shown}
-use Rattle.testing.proofs.Atoms.{tested-says}
+use Rattle.reaching.proofs.Handing.{HandsBy, hands-shown}
+use Rattle.reaching.proofs.Reached.{AllProper}
+use Rattle.testing.proofs.Gathering.{tested-says}
 use Rattle.testing.specs.Asked.{Gathers, WitnessOf, testedAtoms}
+use Rattle.testing.specs.New.{listed, packedAtoms}
+use Rattle.testing.specs.declared.Atoms.{Atoms}
 use Rattle.testing.specs.declared.Tested.{Tested}
 use Rattle.trail.specs.Entries.{trailOf}
 use Rattle.calculus.specs.Clauses as calculus
@@ -35,11 +40,15 @@ module _ {r : Run} {s : State} (R : RunOf r s) (x : Step) {az : List Atom} {b : 
   said : WitnessOf (s .constants) (question s x) b
   said = transport (λ i. WitnessOf (constants-is R i) (together i) b) d
 
-  pub decides : ((a : Atom) → List·Memᴰ a (question s x) → Proper (s .constants) a) → T (b .given) ↔ Possible whole (s .constants) (question s x)
+  pub decides : AllProper (s .constants) (question s x) → T (b .given) ↔ Possible whole (s .constants) (question s x)
   decides h = ((λ z. said .says .0 z .1), λ P. said .says .1 (record { few-constants = fine R .few-constants; proper = h }, P))
 
   pub hands : tests x ≡ true → b .given ≡ true → HandsBy s x b
   hands t e = hands-shown s x t b e (said .shown (subst T (sym e) tt))
+
+-- What is gathered with the record of a clause's atoms is gathered with them.
+pub gathered-own : {w : Tested} {b : Atoms} {ts az : List Atom} → (b ≡ packedAtoms az) × (b .count ≤ mostAtoms) → Gathers w ts (listed b) → Gathers w ts az
+gathered-own {w} {b} {ts} {az} (e, few) = subst (Gathers w ts) (ap listed e ∙ take-exactly noAtom mostAtoms az (omega (arith, ap (λ (q : Atoms). q .count) e)))
 
 pub not-zero : {p : ℕ} → 0 < p → ¬ (p ≡ 0)
 not-zero h e = absurd (omega arith)

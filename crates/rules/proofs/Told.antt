@@ -1,12 +1,11 @@
 -- How an answer is told: refused, with the run handed back, or accepted, with the next one and what the step hands on. It is unique.
-use mathlib.Core.Path.{_∙_, _≡_, ap, ap₂, refl, subst, sym}
+use mathlib.Core.Path.{_∙_, _≡_, ap, ap₂, refl, sym}
 use mathlib.Core.Logic.{_↔_}
-use mathlib.Core.List.{List, []}
-use mathlib.Core.Option.{Option, none, some}
-use mathlib.Core.Bool.{Bool, false, not, true}
+use mathlib.Core.Option.{none}
+use mathlib.Core.Bool.{Bool, not}
 use Prim.Native.Nat.{ℕ}
 use lib.Dec.{T, eqb}
-use lib.IntN.{ℤ}
+use borrow.Author.Tests.{ne-eqb}
 use Rattle.basis.specs.Atoms.{Possible}
 use Rattle.basis.specs.Numbers.{whole}
 use Rattle.basis.specs.Refusals.{accepted, notFalse}
@@ -15,40 +14,16 @@ use Rattle.lists.proofs.Tests.{F→eq}
 use Rattle.rules.specs.Answers.{AnswerUnique, RunOf, Told}
 use Rattle.rules.specs.Records.{packedAnswer, packedRun, refusedAt, refusedBy}
 use Rattle.rules.specs.declared.Run.{Run}
-use Rattle.calculus.proofs.Answers.{judged-by, possible-none}
+use Rattle.calculus.proofs.Answers.{judged-by}
 use Rattle.calculus.proofs.Asks.{AllOk, pass}
 use Rattle.calculus.specs.Checks.{firstRefusal}
 use Rattle.calculus.proofs.Computed.{answer, asks, notFalsePlace}
-use Rattle.calculus.specs.Handing.{HandsOn, tests}
-use Rattle.calculus.specs.Rules.{learnsAt, next, question}
+use Rattle.calculus.specs.Conditions.{Judged}
+use Rattle.calculus.specs.Rules.{Answer, learnsAt, next, question}
 use Rattle.calculus.specs.States.{State, Step}
-use Rattle.constraint.proofs.Decided.{possible-decided}
-use Rattle.constraint.specs.Test.{NumbersIn}
-use Rattle.rules.proofs.Handing.{answered-once}
 use Rattle.constraint.specs.Witnesses.{packedWitness}
-
--- Whether the atoms that a step asks for are possible is decided.
-pub decided : (s : State) (x : Step) → (b : Bool) × (T b ↔ Possible whole (s .constants) (question s x))
-decided s x = go (possible-decided (s .constants) (question s x))
-  where
-    go : Dec (Possible whole (s .constants) (question s x)) → (b : Bool) × (T b ↔ Possible whole (s .constants) (question s x))
-    go (yes p) = (true, ((λ _. p), (λ _. tt)))
-    go (no n) = (false, ((λ z. absurd z), n))
-
--- A rule that asks for nothing to be possible
-pub nothing-asked : (s : State) (x : Step) → question s x ≡ [] → T true ↔ Possible whole (s .constants) (question s x)
-nothing-asked s x e = ((λ _. subst (Possible whole (s .constants)) (sym e) (possible-none whole (s .constants))), (λ _. tt))
-
--- w is the record of what the step hands on where it is accepted.
-abbrev pub HandsBy : State → Step → Witness → Type 0
-HandsBy s x w = (h : Option (List ℤ)) × HandsOn s x accepted h × (w ≡ packedWitness h)
-
--- .. of a rule that tests the numbers behind the yes, of another none
-pub hands-shown : (s : State) (x : Step) → tests x ≡ true → (w : Witness) → w .given ≡ true → NumbersIn (s .constants) (question s x) (w .numbers) → HandsBy s x w
-hands-shown s x t w e (numbers, these, is) = (some numbers, rw t (numbers, these, refl), λ i. record { given = e i; numbers = is i })
-
-pub hands-none : (s : State) (x : Step) → tests x ≡ false → {w : Witness} → w ≡ packedWitness none → HandsBy s x w
-hands-none s x t e = (none, rw t refl, e)
+use Rattle.rules.specs.declared.Stepped.{Stepped}
+use Rattle.reaching.proofs.Handing.{HandsBy, answered-once, decided}
 
 module _ {r : Run} {s : State} (R : RunOf r s) (x : Step) where
   -- Refused by n, the test's answer being b
@@ -57,6 +32,12 @@ module _ {r : Run} {s : State} (R : RunOf r s) (x : Step) where
   refused-by b d n h k e =
       let refuses = F→eq (eqb n accepted) h in
       (answer b s x, none, judged-by whole b s x d, rw (e, refuses) refl, rw (e, refuses, F→eq (eqb n notFalse) k) (ap (λ (q : Run). refusedBy q n) (R .is)))
+
+  -- .. whatever its answer is
+  pub refused-as : {b : Answer} → Judged whole s x b → ¬ (b .number ≡ accepted) → ¬ (b .number ≡ notFalse) → {n : ℕ} → n ≡ b .number → Told s x (refusedBy r n)
+  refused-as {b} j h k e =
+      let refuses = ne-eqb (b .number) accepted h in
+      (b, none, j, rw refuses refl, rw refuses (λ i. record { run = (R .is ∙ ap packedRun (sym (j .handed-back h))) i; number = e i; place = sym (j .no-place k) i; learned = 0; witness = packedWitness none }))
 
   -- Refused before the test, whose answer would change nothing
   pub refused : (n : ℕ) → T (not (eqb n accepted)) → T (not (eqb n notFalse)) → ((b : Bool) → firstRefusal (asks b s x) ≡ n) → Told s x (refusedBy r n)
@@ -73,9 +54,9 @@ module _ {r : Run} {s : State} (R : RunOf r s) (x : Step) where
       let passes = pass (asks b s x) checks in
       (answer b s x, h, judged-by whole b s x d, rw passes handed, rw passes (λ i. record { run = e i; number = accepted; place = 0; learned = learnsAt s x; witness = w-is i }))
 
+-- Two answers to a step at a state are one.
+pub told-once : (s : State) (x : Step) {a b : Stepped} → Told s x a → Told s x b → a ≡ b
+told-once s x (c, m, i, M, e) (d, n, j, N, h) = let (same, handed) = answered-once s x i M j N in e ∙ ap₂ (packedAnswer s x) same handed ∙ sym h
+
 pub answered-unique : AnswerUnique
-answered-unique r k x a b (s, R, l) f g =
-    let (c, m, i, M, e) = f s R l in
-    let (d, n, j, N, h) = g s R l in
-    let (same, handed) = answered-once s x i M j N in
-    e ∙ ap₂ (packedAnswer s x) same handed ∙ sym h
+answered-unique r k x a b (s, R, l) f g = told-once s x (f s R l) (g s R l)

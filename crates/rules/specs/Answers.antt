@@ -2,7 +2,6 @@
 use mathlib.Core.Path.{_≡_}
 use mathlib.Core.List.{List}
 use mathlib.Core.Option.{Option}
-use Prim.Native.Nat.{ℕ}
 use lib.IntN.{ℤ}
 use Rattle.basis.specs.Numbers.{whole}
 use Rattle.calculus.specs.Conditions.{Judged}
@@ -10,9 +9,10 @@ use Rattle.calculus.specs.Handing.{HandsOn}
 use Rattle.calculus.specs.Rules.{Answer}
 use Rattle.calculus.specs.Runs.{Reached, plain}
 use Rattle.calculus.specs.States.{State, Step}
-use Rattle.asking.specs.Looking.{lookedAt}
+use Rattle.asking.specs.Looking.{lookedAt, namedAt}
 use Rattle.rules.specs.Records.{packedRun, packedAnswer}
 use Rattle.asking.specs.declared.Looked.{Looked}
+use Rattle.asking.specs.declared.Named.{Named}
 use Rattle.rules.specs.declared.Run.{Run}
 use Rattle.rules.specs.declared.Stepped.{Stepped}
 
@@ -33,12 +33,19 @@ Kept r = (s : State) × RunOf r s
 abbrev pub Handed : Run → Looked → Step → Type 0
 Handed r k x = (s : State) × RunOf r s × (k ≡ lookedAt s x)
 
+-- .. and by Decide: what the atoms that it names are.
+abbrev pub HandedNamed : Run → Looked → Named → Step → Type 0
+HandedNamed r k n x = (s : State) × RunOf r s × (k ≡ lookedAt s x) × (n ≡ namedAt s x)
+
 -- What each rule promises: it answers as the calculus does, of every such state.
 abbrev pub Answers : Run → Step → Stepped → Type 0
 Answers r x a = (s : State) → RunOf r s → Told s x a
 
 abbrev pub Answered : Run → Looked → Step → Stepped → Type 0
 Answered r k x a = (s : State) → RunOf r s → k ≡ lookedAt s x → Told s x a
+
+abbrev pub AnsweredNamed : Run → Looked → Named → Step → Stepped → Type 0
+AnsweredNamed r k n x a = (s : State) → RunOf r s → k ≡ lookedAt s x → n ≡ namedAt s x → Told s x a
 
 -- The answer is unique. Proved in proofs/Told.antt.
 abbrev pub AnswerUnique : Type 0
@@ -48,9 +55,6 @@ AnswerUnique = (r : Run) (k : Looked) (x : Step) (a b : Stepped) → Handed r k 
 abbrev pub RunAnswerUnique : Type 0
 RunAnswerUnique = (r : Run) (x : Step) (a b : Stepped) → Kept r → Answers r x a → Answers r x b → a ≡ b
 
--- What a step hands on is there, where the state was reached, and is unique. Proved in proofs/Handing.antt.
-abbrev pub EveryStepHands : Type 0
-EveryStepHands = (s : State) (x : Step) (b : Answer) → Reached (plain whole) s → Judged whole s x b → (h : Option (List ℤ)) × HandsOn s x (b .number) h
-
-abbrev pub HandsOnce : Type 0
-HandsOnce = (s : State) (x : Step) (number : ℕ) (g h : Option (List ℤ)) → HandsOn s x number g → HandsOn s x number h → g ≡ h
+-- .. and that of Decide.
+abbrev pub NamedAnswerUnique : Type 0
+NamedAnswerUnique = (r : Run) (k : Looked) (n : Named) (x : Step) (a b : Stepped) → HandedNamed r k n x → AnsweredNamed r k n x a → AnsweredNamed r k n x b → a ≡ b

@@ -3,14 +3,21 @@
 ghost use mathlib.Core.Path.{_≡_};
 ghost use mathlib.Core.Bool.{cond};
 ghost use Prim.Native.Nat.{_+_, _-_, _≤_, _<_};
-ghost use Rattle.basis.specs.Limits.{mostAtoms, mostEntries};
+ghost use Rattle.basis.specs.Limits.{mostAtoms, mostBrought, mostEntries};
 ghost use Rattle.basis.specs.Refusals.{notFalse};
 ghost use lib.Dec.{eqb};
 ghost use Rattle.lists.specs.Arrays.{exactly};
-ghost use Rattle.calculus.specs.States.{Propagate, Decide, Conflict, Resolve, Factorize, Skip, Backtrack, Grow, Unknown};
-ghost use Rattle.rules.specs.Records.{appendedAt, refusedAt, refusedBy, takenUp};
-ghost use Rattle.rules.specs.Answers.{Kept, Handed, Answers, Answered};
+ghost use Rattle.calculus.specs.States.{Propagate, Conflict, Resolve, Factorize, Skip, Backtrack, Grow, Unknown};
+ghost use Rattle.asking.specs.Steps.{decideOf};
+ghost use mathlib.Core.Option.{some};
+ghost use Rattle.calculus.specs.Trails.{background};
+ghost use Rattle.trail.specs.Entries.{Recorded};
+ghost use Rattle.rules.specs.Records.{appendedAt, decidedAt, refusedAt, refusedBy, sourceKept, takenUp};
+ghost use Rattle.rules.specs.Answers.{Kept, Handed, HandedNamed, Answers, Answered, AnsweredNamed};
 use asking::Looked;
+use asking::Named;
+use asking::Source;
+use asking::Step;
 use asking::in_conflict;
 use asking::instance_named;
 use asking::is_complement;
@@ -22,7 +29,9 @@ use asking::refusal;
 use asking::resolvent;
 use basis::ABOVE_LIMIT;
 use basis::ALREADY_DEFINED;
+use basis::Atom;
 use basis::KEPT_NOT_POSSIBLE;
+use basis::MOST_BROUGHT;
 use basis::MOST_CONSTANTS;
 use basis::MOST_ENTRIES;
 use basis::MOST_LEARNED;
@@ -33,43 +42,44 @@ use basis::NO_SUCH;
 use basis::NOT_ABOVE;
 use basis::NOT_FALSE;
 use basis::NOT_POSSIBLE;
-use basis::OUT_OF_RANGE;
 use basis::UNKNOWN_RULE;
+use basis::Version;
 use basis::WRONG_LITERAL;
 use basis::WRONG_MOMENT;
 use basis::Witness;
 use clauses::Instanced;
 use clauses::no_instanced;
 use clauses::no_literal;
+use deciding::weigh;
 use instances::again;
 use instances::conflict_instance;
-use instances::decided_literal;
 use instances::first_constants;
 use instances::index_of;
 use instances::literal_exists;
 use instances::literal_instance;
 use instances::same_instance;
 use instances::two_literals;
-use testing::NewAtoms;
+use testing::Atoms;
 use testing::gathered;
+use testing::ground_atoms;
 use testing::new_atoms;
 use testing::no_witness;
 use testing::possible;
 use trail::Entry;
 use trail::background_entry;
 use trail::blank_entry;
-use trail::decided_entry;
+use trail::brought_entry;
 use trail::empty_trail;
 use trail::levels;
 use trail::literals_seen;
 use trail::propagated_entry;
-use trail::undefined;
 
 // "The tool takes a state and one proposed step": what a rule changes of the state. The clause table stands beside it. The trail comes first,
 // so that a copy of it begins where a word does.
 pub struct Run {
     pub trail: [Entry; MOST_ENTRIES],
     pub conflict: Instanced,
+    pub version: Version,
     pub constants: u8,
     pub input: u8,
     pub learned: u8,
@@ -146,14 +156,7 @@ fn taken_up(run: Run, number: u8, first: u8, of: Instanced, witness: Witness) ->
 
 // Accepted: the trail is cut to m entries, `own` is entry m, the new atoms follow it and are the last. `learned` is the number under which a
 // clause was learned, or 0, and the witness is handed on.
-fn appended(
-    run: Run,
-    m: usize,
-    own: Entry,
-    fresh: NewAtoms,
-    learned: u8,
-    witness: Witness,
-) -> Stepped
+fn appended(run: Run, m: usize, own: Entry, fresh: Atoms, learned: u8, witness: Witness) -> Stepped
     requires { ⌜ (fresh .count ≤ mostAtoms) × (m + fresh .count < mostEntries) × (run .length ≤ mostEntries) ⌝ }
     ensures { λ a. ⌜ a ≡ appendedAt run m own fresh learned witness ⌝ }
 {
@@ -182,6 +185,48 @@ fn appended(
     }
 }
 
+// An atom that a decision brings, with its source
+fn source_entry(a: Atom, z: Source) -> Entry
+    ensures { λ r. ⌜ Recorded r (background a (some (sourceKept z))) ⌝ }
+{
+    let instance = z.instance;
+    brought_entry(a, z.clause, z.number, z.sign, instance, z.count)
+}
+
+// Accepted: the decision `own` is appended, and behind it the n atoms that it brings, each with its source; k grows by one. The witness is handed on.
+fn decided(
+    run: Run,
+    own: Entry,
+    n: u8,
+    at: [Atom; MOST_BROUGHT],
+    sources: [Source; MOST_BROUGHT],
+    witness: Witness,
+) -> Stepped
+    requires { ⌜ (n ≤ mostBrought) × (run .length + n < mostEntries) × (run .level ≤ mostEntries) ⌝ }
+    ensures { λ a. ⌜ a ≡ decidedAt run own n at sources witness ⌝ }
+{
+    let m = run.length as usize;
+    let count = n as usize;
+    let mut next = run;
+    next.trail[m] = own;
+    let mut j = 0;
+    while j < count {
+        let a = at[j];
+        let z = sources[j];
+        j += 1;
+        next.trail[m + j] = source_entry(a, z);
+    }
+    next.length = (m + count + 1) as u8;
+    next.level += 1;
+    Stepped {
+        run: next,
+        number: 0,
+        place: 0,
+        learned: 0,
+        witness: witness,
+    }
+}
+
 // ---- the rules
 
 impl Run {
@@ -206,7 +251,8 @@ impl Run {
         let trail = self.trail;
         let m = self.length as usize;
         let seen = literals_seen(trail, self.length, clause, instance, count, true, g);
-        let tested = gathered(trail, self.length, clause, instance, count);
+        let own = ground_atoms(clause, instance, count);
+        let tested = gathered(trail, self.length, own);
         let together = possible(self.constants, tested);
         let fresh = new_atoms(tested);
         let n = fresh.count as usize;
@@ -243,66 +289,34 @@ impl Run {
     }
 
     // "2 Decide (clause, literal, sign, instance). No conflict. The atom of the literal, with the sign given, is undefined. It is appended, k
-    // grows by one."
-    pub fn decide(
-        mut self,
-        looked: Looked,
-        c: u8,
-        l: u8,
-        sign: u8,
-        instance: Instance,
-        count: u8,
-    ) -> Stepped
-        requires { ⌜ Handed self looked (Decide c l sign (exactly count 0 instance)) ⌝ }
-        ensures { λ a. ⌜ Answered self looked (Decide c l sign (exactly count 0 instance)) a ⌝ }
+    // grows by one." From version 2 on it brings atoms, which "follow the literal in the order named".
+    pub fn decide(self, looked: Looked, named: Named, x: Step) -> Stepped
+        requires { ⌜ HandedNamed self looked named (decideOf x) ⌝ }
+        ensures { λ a. ⌜ AnsweredNamed self looked named (decideOf x) a ⌝ }
     {
-        let clause = looked.clause;
-        let positive = sign == 1;
-        let named = literal_named(
+        let trail = self.trail;
+        let version = self.version;
+        let weighed = weigh(
+            trail,
+            self.length,
             self.constants,
             self.input,
             self.learned,
-            c,
-            clause,
-            l,
-            instance,
-            count,
+            self.stands,
+            version,
+            looked,
+            named,
+            x,
         );
-        let g = decided_literal(clause, l, positive, instance, count);
-        let trail = self.trail;
-        let free = undefined(trail, self.length, g);
-        let m = self.length as usize;
-        let number = refusal(
-            count as usize <= MOST_VARIABLES,
-            ABOVE_LIMIT,
-            refusal(
-                sign <= 1,
-                OUT_OF_RANGE,
-                refusal(
-                    !self.stands,
-                    WRONG_MOMENT,
-                    refusal(
-                        named,
-                        NO_SUCH,
-                        refusal(free, ALREADY_DEFINED, refusal(m < MOST_ENTRIES, NO_ROOM, 0)),
-                    ),
-                ),
-            ),
-        );
+        let number = weighed.number;
         if number != 0 {
             return refused(self, number);
         }
-        self.trail[m] = decided_entry(g, c, l, positive, instance, count);
-        self.length += 1;
-        self.level += 1;
-        let none = no_witness();
-        Stepped {
-            run: self,
-            number: 0,
-            place: 0,
-            learned: 0,
-            witness: none,
-        }
+        let own = weighed.own;
+        let witness = weighed.witness;
+        let at = named.at;
+        let sources = x.atoms;
+        decided(self, own, weighed.count, at, sources, witness)
     }
 
     // "3 Conflict (clause, instance). No conflict. All literals false; trail and clause atoms together possible. The clause becomes the
@@ -330,7 +344,8 @@ impl Run {
         let none = no_literal();
         let seen = literals_seen(trail, self.length, clause, instance, count, false, none);
         let first = seen.first;
-        let tested = gathered(trail, self.length, clause, instance, count);
+        let own = ground_atoms(clause, instance, count);
+        let tested = gathered(trail, self.length, own);
         let together = possible(self.constants, tested);
         let number = refusal(
             count as usize <= MOST_VARIABLES,
@@ -455,7 +470,8 @@ impl Run {
         let instance = n.instance;
         let trail = self.trail;
         let at = levels(trail, self.length, n, l);
-        let tested = gathered(trail, at.kept, c, instance, c.variables);
+        let conflicting = ground_atoms(c, instance, c.variables);
+        let tested = gathered(trail, at.kept, conflicting);
         let together = possible(self.constants, tested);
         let fresh = new_atoms(tested);
         let m = fresh.count as usize;

@@ -1,0 +1,2 @@
+-- What Decide weighs.
+pub mod Weighing

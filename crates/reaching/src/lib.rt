@@ -1,0 +1,1 @@
+// No code: what every state reached has, as the code needs it.
