@@ -3,4 +3,5 @@ pub mod Runs
 pub mod Table
 pub mod Opening
 pub mod Packing
+pub mod Behind
 pub mod Replaying

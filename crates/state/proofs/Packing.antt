@@ -14,8 +14,8 @@ use Rattle.calculus.specs.States.{clauses}
 use Rattle.clauses.proofs.Records.{packed-says}
 use Rattle.clauses.specs.Records.{clauseOf, packed}
 use Rattle.clauses.specs.declared.Clause.{Clause}
-use Rattle.rules.proofs.Reached.{few-predicates}
-use Rattle.rules.proofs.Runs.{clauses-is, conflict-shown, constants-is, fine, input-is, level-is, stored}
+use Rattle.reaching.proofs.Reached.{few-predicates}
+use Rattle.rules.proofs.Runs.{clauses-is, conflict-shown, constants-is, fine, input-is, level-is, stored, version-is}
 use Rattle.rules.specs.Answers.{RunOf}
 use Rattle.rules.specs.Records.{conflictSaid}
 use Rattle.rules.specs.declared.Run.{Run}
@@ -31,6 +31,7 @@ clausesOf run table = map clauseOf (take (run .input + run .learned) table)
 -- What the record of a state says
 abbrev stateOf : State → states.State
 stateOf r = record {
+  version = r .run .version;
   arities = take (r .predicates) (r .arities);
   trail = trailOf (r .run .trail) (r .run .length);
   input = take (r .run .input) (clausesOf (r .run) (r .table));
@@ -57,6 +58,7 @@ module _ {r : State} {s : states.State} (S : StateOf r s) where
   -- The input clauses stand before the learned ones.
   state-said : stateOf r ≡ s
   state-said = λ i. record {
+    version = version-is (run-of S) i;
     arities = arities-said i;
     trail = stored (run-of S) .says i;
     input = (ap (take (r .run .input)) held ∙ take-at (s .input) (s .learned) (r .run .input) (sym (input-is (run-of S)))) i;

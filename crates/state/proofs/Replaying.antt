@@ -1,56 +1,39 @@
 -- Replay read off the record of a state is the calculus's of that state, and a run of the code.
 use mathlib.Core.Path.{_∙_, _≡_, ap, refl, subst, sym}
-use mathlib.Core.List.{List, [], _∷_, flatMap, map, reverseAux}
-use mathlib.Core.Bool.{cond}
-use Prim.Native.Nat.{_≤_, ℕ}
+use mathlib.Core.List.{List, [], _∷_, map}
+use mathlib.Core.Option.{none}
+use Prim.Native.Nat.{ℕ}
 use native.Mathlib.Omega.{arith}
-use lib.ListN.{length}
-use Rattle.basis.specs.Limits.{mostEntries}
 use Rattle.basis.specs.Numbers.{whole}
 use Rattle.calculus.specs.Conditions.{Judged}
-use Rattle.calculus.specs.Runs.{AcceptedRun, Reached, plain, replayed, restarted, stepsOf}
+use Rattle.calculus.specs.Runs.{AcceptedRun, Reached, plain, restarted}
+use Rattle.calculus.proofs.Invariant.{Now}
 use Rattle.calculus.proofs.Runs.{start-reached, steps-keep-reached}
-use Rattle.calculus.proofs.Sound.{replays, restarted-starts}
+use Rattle.calculus.proofs.Sound.{inv-run, inv-start, reached-few, replays, restarted-starts}
+use Rattle.calculus.proofs.Trails.{Built, bringsAt}
 use Rattle.calculus.specs.States as states
-use Rattle.calculus.specs.States.{Decide, Propagate, clauses}
-use Rattle.calculus.specs.Trails.{Trail, background, decided, foreground, propagated}
-use Rattle.asking.proofs.Steps.{instance-said}
+use Rattle.calculus.specs.States.{clauses}
 use Rattle.asking.specs.Steps.{stepOf}
 use Rattle.asking.specs.declared.Step.{Step}
-use Rattle.rules.proofs.Handing.{every-step-hands}
-use Rattle.rules.proofs.Reached.{fine-short, reached-fine}
-use Rattle.rules.proofs.Runs.{no-conflict}
+use Rattle.reaching.proofs.Handing.{every-step-hands}
+use Rattle.reaching.proofs.Reached.{no-conflict}
 use Rattle.trail.proofs.Stored.{row-held}
-use Rattle.trail.specs.Entries.{AllShort, packedEntry}
 use Rattle.trail.specs.declared.Entry.{Entry}
-use Rattle.state.specs.Runs.{StartAgainRestarts, BehindReplays, CodeAccepts, CodeReplays, StartsAgain, behind, behindEntry, over, startAgain, then}
+use Rattle.state.specs.Runs.{StartAgainRestarts, BehindReplays, CodeAccepts, CodeReplays, StartsAgain, behind, behindEntries, over, startAgain, then}
 use Rattle.state.specs.States.{packedAnswer, packedState}
 use Rattle.state.specs.declared.State.{State}
+use Rattle.state.proofs.Behind.{built-tells}
 use Rattle.state.proofs.Runs.{answers-so}
 
 pub start-again-restarts : StartAgainRestarts
 start-again-restarts s = refl
 
--- The steps behind entries, first to last
-abbrev stepsBehind : Trail → List states.Step
-stepsBehind es = map stepOf (flatMap behindEntry (map packedEntry es))
-
--- Entries turned round give their steps turned round.
-turned : (t es : Trail) → AllShort t → stepsBehind (reverseAux t es) ≡ reverseAux (stepsOf t) (stepsBehind es)
-unfolding flatMap
-turned [] es h = refl
-turned (background a ∷ t) es h = turned t (background a ∷ es) (h .1)
-turned (foreground l (propagated c n τ) ∷ t) es h = turned t (foreground l (propagated c n τ) ∷ es) (h .1)
-    ∙ ap (λ (k : List ℕ). reverseAux (stepsOf t) (Propagate c n k ∷ stepsBehind es)) (instance-said τ (h .0))
-turned (foreground l (decided c n b τ) ∷ t) es h = turned t (foreground l (decided c n b τ) ∷ es) (h .1)
-    ∙ ap (λ (k : List ℕ). reverseAux (stepsOf t) (Decide c n (cond b 1 0) k ∷ stepsBehind es)) (instance-said τ (h .0))
-
-pub behind-says : (s : states.State) → length (s .trail) ≤ mostEntries → AllShort (s .trail) → map stepOf (behind (packedState s)) ≡ replayed (s .trail)
-unfolding flatMap
-behind-says s few short = ap (λ (es : List Entry). map stepOf (flatMap behindEntry es)) (row-held (s .trail) few) ∙ turned (s .trail) [] short
+-- Where no conflict stands, the trail was built group by group.
+built : (s : states.State) → Reached (plain whole) s → s .conflict ≡ none → Built whole (bringsAt s) (clauses s) (s .constants) (s .trail)
+built s h e = subst (Now whole (clauses (h .first)) s) e (inv-run (inv-start whole (h .first) (h .start)) (h .run) .now) .lower
 
 pub behind-replays : BehindReplays
-behind-replays s h = let F = reached-fine s h in behind-says s (F .few-entries) (fine-short (clauses s) (s .constants) (s .trail) (F .entries))
+behind-replays s h e = ap (λ (es : List Entry). map stepOf (behindEntries es)) (row-held (s .trail) (reached-few whole s h)) ∙ built-tells (built s h e) .says
 
 -- Steps that the rules accept one after the other, given to the code
 code-accepts : {s s′ : states.State} {ys : List states.Step} (xs : List Step) → map stepOf xs ≡ ys → Reached (plain whole) s → AcceptedRun (plain whole) s ys s′ → CodeAccepts (packedState s) xs (packedState s′)
@@ -73,4 +56,4 @@ starts-again r (s, S) = (restarted s, record { reached = again-reached s (S .rea
 pub code-replays : CodeReplays
 code-replays r (s, S) free =
     let calm = no-conflict (s .conflict) (sym (ap (λ (q : State). q .run .stands) (S .is)) ∙ free) in
-    subst (λ (q : State). CodeAccepts (startAgain q) (behind q) q) (sym (S .is)) (code-accepts (behind (packedState s)) (behind-replays s (S .reached)) (again-reached s (S .reached)) (replays whole s (S .reached) calm))
+    subst (λ (q : State). CodeAccepts (startAgain q) (behind q) q) (sym (S .is)) (code-accepts (behind (packedState s)) (behind-replays s (S .reached) calm) (again-reached s (S .reached)) (replays whole s (S .reached) calm))

@@ -17,9 +17,8 @@ use Rattle.calculus.specs.Runs as runs
 use Rattle.calculus.specs.States as states
 use Rattle.calculus.proofs.Answers.{judged-by}
 use Rattle.calculus.proofs.Runs.{steps-keep-reached}
-use Rattle.rules.proofs.Handing.{answered-once, asked-placed, every-step-hands}
+use Rattle.reaching.proofs.Handing.{answered-once, asked-placed, decided, every-step-hands}
 use Rattle.rules.proofs.Naming.{and-true}
-use Rattle.rules.proofs.Told.{decided}
 use Rattle.asking.specs.Steps.{stepOf}
 use Rattle.asking.specs.declared.Step.{Step}
 use Rattle.state.specs.Runs.{CodeRun, CodeRunsAreRuns, over, then}

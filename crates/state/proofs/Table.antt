@@ -1,5 +1,5 @@
 -- The table of clauses: what a step looks at in it, and how a step changes it.
-use mathlib.Core.Path.{_≡_, refl, sym, ap, subst, _∙_}
+use mathlib.Core.Path.{_≡_, refl, sym, ap, subst, transport⁻¹, _∙_}
 use mathlib.Core.List.{List, [], _∷_, _++_, map, append-assoc, map-append, reverse}
 use mathlib.Core.Logic.{_⊎_, inl, inr}
 use mathlib.Core.Option.{Option}
@@ -31,23 +31,24 @@ use Rattle.calculus.proofs.Runs.{steps-keep-reached}
 use Rattle.clauses.specs.Records.{packed}
 use Rattle.clauses.proofs.Records.{pastTable}
 use Rattle.clauses.specs.declared.Clause.{Clause}
-use Rattle.rules.specs.Answers.{RunOf, Told}
+use Rattle.rules.specs.Answers.{Answered, AnsweredNamed, RunOf, Told}
 use Rattle.asking.specs.Looking.{heldAt, lastNamed, lookedAt, lookedIn, looksAt, numberLooked, slotOf}
 use Rattle.asking.specs.Kinds.{isPropagated}
-use Rattle.asking.specs.Steps.{instanceOf, stepOf}
+use Rattle.asking.specs.Steps.{decideOf, instanceOf, stepOf}
 use Rattle.asking.specs.declared.Looked.{Looked}
+use Rattle.asking.specs.declared.Named.{Named}
 use Rattle.rules.specs.declared.Run.{Run}
 use Rattle.asking.specs.declared.Step.{Step}
 use Rattle.rules.specs.declared.Stepped.{Stepped}
-use Rattle.rules.proofs.Reached.{reached-fine}
+use Rattle.reaching.proofs.Reached.{reached-fine}
 use Rattle.rules.proofs.Runs.{conflict-is, fine, last-shown, none-shown, stored}
 use Rattle.rules.proofs.Steps.{propagate-step, decide-step, conflict-step, resolve-step, factorize-step, skip-step, backtrack-step, grow-step, unknown-step}
 use Rattle.trail.specs.Entries.{blankEntry, entryAs, packedEntry, packedTrail, pastEnd, trailOf}
 use Rattle.trail.specs.declared.Kind.{Kind}
-use Rattle.trail.specs.declared.Kind.the-variants.{Background, Propagated, Decided}
+use Rattle.trail.specs.declared.Kind.the-variants.{Background, Brought, Propagated, Decided}
 use Rattle.trail.specs.declared.Entry as entries
 use Rattle.state.specs.States.{StateOf, packedAnswer, packedTable, tableAfter}
-use Rattle.state.specs.declared.Answered.{Answered}
+use Rattle.state.specs.declared.Answered as answers
 use Rattle.state.specs.declared.State.{State}
 
 -- A number is k, or it is not.
@@ -56,7 +57,7 @@ is n k yes-then no-then = elim (ℕ-discrete n k) [ yes e ↦ yes-then e | no e 
 
 -- What holds of every rule's step holds of a step record.
 by-rule : (P : states.Step → Type 0) (x : Step)
-    → (x .rule ≡ 1 → P (Propagate (x .clause) (x .literal) (instanceOf x))) → (x .rule ≡ 2 → P (Decide (x .clause) (x .literal) (x .sign) (instanceOf x)))
+    → (x .rule ≡ 1 → P (Propagate (x .clause) (x .literal) (instanceOf x))) → (x .rule ≡ 2 → P (decideOf x))
     → (x .rule ≡ 3 → P (Conflict (x .clause) (instanceOf x))) → (x .rule ≡ 4 → P (Resolve (x .literal))) → (x .rule ≡ 5 → P (Factorize (x .literal) (x .other)))
     → (x .rule ≡ 6 → P Skip) → (x .rule ≡ 7 → P (Backtrack (x .literal))) → (x .rule ≡ 8 → P (Grow (x .amount)))
     → (¬ (x .rule ≡ 1) → ¬ (x .rule ≡ 2) → ¬ (x .rule ≡ 3) → ¬ (x .rule ≡ 4) → P (Unknown (x .rule))) → P (stepOf x)
@@ -78,7 +79,7 @@ module _ {run : Run} {s : states.State} {table : List Clause} (R : RunOf run s) 
   few = omega (arith, length-append (s .input) (s .learned), fine R .few-input, fine R .few-learned)
 
   -- What stands in a clause's slot
-  found : (blank : Clause) (c : ℕ) → lookedIn c (getD table (slotOf c) blank) ≡ record { clause = packed (heldAt (clauses s) c) }
+  pub found : (blank : Clause) (c : ℕ) → lookedIn c (getD table (slotOf c) blank) ≡ record { clause = packed (heldAt (clauses s) c) }
   unfolding packedTable
   found blank zero = refl
   found blank (suc c) = elim (decLt c mostClauses) [
@@ -118,6 +119,7 @@ module _ {run : Run} {s : states.State} {table : List Clause} (R : RunOf run s) 
 
       by-kind : (k : Kind) (e : entries.Entry) (t : Trail) → cond (isPropagated k) (e .clause) 0 ≡ lastNamed (entryAs k e ∷ t)
       by-kind Background e t = refl
+      by-kind Brought e t = refl
       by-kind Propagated e t = refl
       by-kind Decided e t = refl
 
@@ -133,13 +135,23 @@ pub looks-at : {run : Run} {s : states.State} {table : List Clause} → RunOf ru
 looks-at {run} {s} {table} R is x {i} {c} {k} l e h q = q ∙ ap (λ (m : ℕ). lookedIn c (getD table m pastTable)) h ∙ found R is pastTable c
     ∙ ap (λ (m : ℕ). record { clause = packed (heldAt (clauses s) m) }) (e ∙ number-is R is x i l)
 
+-- ---- what a rule answers
+
+module _ {r : Run} {k : Looked} {n : Named} where
+  pub named-as : {x y : states.Step} {a b : Stepped} → x ≡ y → a ≡ b → AnsweredNamed r k n y b → AnsweredNamed r k n x a
+  named-as e q h = transport⁻¹ (λ i. AnsweredNamed r k n (e i) (q i)) h
+
+  -- Of a rule that looks at no atoms, whatever they are
+  pub any-named : {x : states.Step} {a : Stepped} → Answered r k x a → AnsweredNamed r k n x a
+  any-named h = λ s R looks names. h s R looks
+
 -- ---- how a step changes it
 
 -- A step learns nothing, or the conflict that stood, under the next number.
 learns : (s : states.State) (y : states.Step) → ((learnsAt s y ≡ 0) × (clauses (next s y) ≡ clauses s))
     ⊎ ((learnsAt s y ≡ suc (length (clauses s))) × (clauses (next s y) ≡ clauses s ++ (conflictOf (s .conflict) .clause ∷ [])))
 learns s (Propagate c l τ) = inl (refl, refl)
-learns s (Decide c l g τ) = inl (refl, refl)
+learns s (Decide c l g τ zs) = inl (refl, refl)
 learns s (Conflict c τ) = inl (refl, refl)
 learns s (Resolve l) = inl (refl, refl)
 learns s (Factorize i j) = inl (refl, refl)
@@ -226,7 +238,7 @@ module _ {r : State} {s : states.State} (S : StateOf r s) where
   -- The next run with its table, beside predicates that no step changes
   pub step-answers : (x : Step) (a : Stepped) (told : Told s (stepOf x) a) (table : List Clause) → table ≡ tableAfter (r .table) (r .run) a
       → (c : Answer) × (h : Option (List ℤ)) × Judged whole s (stepOf x) c × HandsOn s (stepOf x) (c .number) h ×
-      (_≡_ {A = Answered}
+      (_≡_ {A = answers.Answered}
       (record { state = record { run = a .run; predicates = r .predicates; arities = r .arities; table = table }; number = a .number; place = a .place; witness = a .witness })
       (packedAnswer c h))
   step-answers x a told table new = (

@@ -1,10 +1,13 @@
 -- Runs of the code: steps given to `step`; and replay: where it starts and the steps that it gives, read off the record of the final state.
 use mathlib.Core.Path.{_≡_}
-use mathlib.Core.List.{List, [], _∷_, flatMap, map}
-use mathlib.Core.Bool.{cond, false}
+use mathlib.Core.List.{List, [], _++_, _∷_, map}
+use mathlib.Core.Option.{none}
+use mathlib.Core.Bool.{false}
 use lib.ListN.{take}
+use Rattle.basis.specs.Limits.{mostBrought}
 use Rattle.basis.specs.Numbers.{whole}
 use Rattle.basis.specs.Refusals.{accepted}
+use Rattle.lists.specs.Arrays.{exactly}
 use Rattle.calculus.specs.Clauses.{noInstanced}
 use Rattle.calculus.specs.Runs.{Reached, Run, plain, replayed, restarted}
 use Rattle.calculus.specs.States as states
@@ -12,8 +15,9 @@ use Rattle.clauses.specs.Records.{packedInstanced}
 use Rattle.trail.specs.Entries.{packedTrail}
 use Rattle.trail.specs.declared.Entry.{Entry}
 use Rattle.trail.specs.declared.Kind.{Kind}
-use Rattle.trail.specs.declared.Kind.the-variants.{Background, Propagated, Decided}
-use Rattle.asking.specs.Steps.{stepOf}
+use Rattle.trail.specs.declared.Kind.the-variants.{Background, Brought, Propagated, Decided}
+use Rattle.asking.specs.Steps.{noSource, stepOf}
+use Rattle.asking.specs.declared.Source.{Source}
 use Rattle.asking.specs.declared.Step.{Step}
 use Rattle.state.specs.States.{Answers, Made, packedState}
 use Rattle.state.specs.declared.Answered.{Answered}
@@ -42,6 +46,7 @@ CodeRunsAreRuns = (s₀ : states.State) (r : State) (xs : List Step) → Reached
 abbrev pub startAgain : State → State
 startAgain r = record {
   run = record {
+    version = r .run .version;
     constants = r .run .constants;
     input = r .run .input;
     learned = r .run .learned;
@@ -56,26 +61,35 @@ startAgain r = record {
   table = r .table;
 }
 
--- The one Propagate (rule 1) or Decide (rule 2) behind a foreground entry, which "keeps its step: Propagate's clause, literal and instance (after
--- Backtrack, those of the learned clause), or Decide's with the sign"; what the rule has no use for is 0. Behind a background entry there is none.
-abbrev pub behindAs : Kind → Entry → List Step
-behindAs Background e = []
-behindAs Propagated e = record { rule = 1; clause = e .clause; literal = e .number; other = 0; sign = 0; amount = 0; count = e .count; instance = e .instance } ∷ []
-behindAs Decided e = record { rule = 2; clause = e .clause; literal = e .number; other = 0; sign = cond (e .sign) 1 0; amount = 0; count = e .count; instance = e .instance } ∷ []
+-- The source that an entry keeps
+abbrev pub sourceKept : Entry → Source
+sourceKept e = record { clause = e .clause; number = e .number; sign = e .sign; count = e .count; instance = e .instance }
 
-abbrev pub behindEntry : Entry → List Step
-behindEntry e = behindAs (e .kind) e
+-- The one Propagate (rule 1) or Decide (rule 2) behind a foreground entry, which "keeps its step: Propagate's clause, literal and instance (after
+-- Backtrack, those of the learned clause), or Decide's with the sign" and how many atoms it brought, which are the sources of the entries after it;
+-- what the rule has no use for is 0. Behind a background entry there is none.
+abbrev pub behindAs : Kind → Entry → (after : List Entry) → List Step
+behindAs Background e after = []
+behindAs Brought e after = []
+behindAs Propagated e after =
+    record { rule = 1; clause = e .clause; literal = e .number; other = 0; sign = 0; amount = 0; count = e .count; brought = 0; instance = e .instance; atoms = exactly mostBrought noSource [] } ∷ []
+behindAs Decided e after =
+    record { rule = 2; clause = e .clause; literal = e .number; other = 0; sign = e .sign; amount = 0; count = e .count; brought = e .brought; instance = e .instance; atoms = exactly mostBrought noSource (map sourceKept (take (e .brought) after)) } ∷ []
+
+abbrev pub behindEntries : List Entry → List Step
+behindEntries [] = []
+behindEntries (e ∷ es) = behindAs (e .kind) e es ++ behindEntries es
 
 -- "Give, left to right, the one Propagate or Decide behind each foreground entry of the final trail."
 abbrev pub behind : State → List Step
-behind r = flatMap behindEntry (take (r .run .length) (r .run .trail))
+behind r = behindEntries (take (r .run .length) (r .run .trail))
 
 -- Of the records of states these are what the calculus gives again. Proved in proofs/Replaying.antt.
 abbrev pub StartAgainRestarts : Type 0
 StartAgainRestarts = (s : states.State) → startAgain (packedState s) ≡ packedState (restarted s)
 
 abbrev pub BehindReplays : Type 0
-BehindReplays = (s : states.State) → Reached (plain whole) s → map stepOf (behind (packedState s)) ≡ replayed (s .trail)
+BehindReplays = (s : states.State) → Reached (plain whole) s → s .conflict ≡ none → map stepOf (behind (packedState s)) ≡ replayed (s .trail)
 
 -- What is started again may be given to `step`. Proved in proofs/Replaying.antt.
 abbrev pub StartsAgain : Type 0

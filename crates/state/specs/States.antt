@@ -12,6 +12,8 @@ use Rattle.admission.specs.Offered as admission
 use Rattle.basis.specs.Limits.{mostClauses, mostInput, mostPredicates}
 use Rattle.basis.specs.Numbers.{whole}
 use Rattle.basis.specs.Refusals.{accepted}
+use Rattle.basis.specs.declared.Version.{Version}
+use Rattle.basis.specs.declared.Version.the-variants.{One}
 use Rattle.lists.specs.Arrays.{exactly}
 use Rattle.calculus.specs.Admission.{Admitted, admissionRefusal, fresh}
 use Rattle.calculus.specs.Clauses as calculus
@@ -72,20 +74,21 @@ Answers r x a =
 -- ---- admission
 
 -- "Only admission makes a state": of what it accepts, the state in which nothing has been done. "A refused file yields no state": the answer is a
--- struct, since no enum holds an array, and so some record stands beside a refusal. It is that of no clauses, no predicates and no constants:
+-- struct, since no enum holds an array, and so some record stands beside a refusal. It is that of no clauses, no predicates and no constants, of version 1:
 -- nothing of what was offered is left in it.
-abbrev pub madeOf : ℕ → ℕ → List ℕ → List calculus.Clause → states.State
-madeOf number constants arities cs = cond (eqb number accepted) (fresh constants arities cs) (fresh 0 [] [])
+abbrev pub madeOf : ℕ → Version → ℕ → List ℕ → List calculus.Clause → states.State
+madeOf number version constants arities cs = cond (eqb number accepted) (fresh version constants arities cs) (fresh One 0 [] [])
 
--- What `admit` answers of the constants, arities and clauses that were offered
-unfoldable pub opened : ℕ → List ℕ → List calculus.Clause → Opened
-opened constants arities cs =
+-- What `admit` answers of the version, constants, arities and clauses that were offered
+unfoldable pub opened : Version → ℕ → List ℕ → List calculus.Clause → Opened
+opened version constants arities cs =
     let r = admissionRefusal constants arities cs in
-    record { state = packedState (madeOf (r .number) constants arities cs); number = r .number; place = r .place }
+    record { state = packedState (madeOf (r .number) version constants arities cs); number = r .number; place = r .place }
 
 -- A run of no steps
-abbrev pub newRun : ℕ → ℕ → Run
-newRun constants input = record {
+abbrev pub newRun : Version → ℕ → ℕ → Run
+newRun version constants input = record {
+  version = version;
   constants = constants;
   input = input;
   learned = 0;
@@ -97,17 +100,17 @@ newRun constants input = record {
 }
 
 -- r is the state in which nothing has been done, of the clauses that the table holds.
-abbrev pub IsNew : ℕ → List ℕ → ℕ → List Clause → State → Type 0
-IsNew constants arities count table r = (cs : List calculus.Clause) → table ≡ admission.packedInput cs → count ≡ length cs → count ≤ mostInput → r ≡ packedState (fresh constants arities cs)
+abbrev pub IsNew : Version → ℕ → List ℕ → ℕ → List Clause → State → Type 0
+IsNew version constants arities count table r = (cs : List calculus.Clause) → table ≡ admission.packedInput cs → count ≡ length cs → count ≤ mostInput → r ≡ packedState (fresh version constants arities cs)
 
 -- What is accepted is admitted, and the state handed back is its record: what `step` takes for granted. Proved in proofs/Opening.antt.
 abbrev pub AdmitMakesStates : Type 0
-AdmitMakesStates = (constants : ℕ) (arities : List ℕ) (cs : List calculus.Clause) (a : Opened) → a ≡ opened constants arities cs → a .number ≡ accepted
-    → Admitted (fresh constants arities cs) × StateOf (a .state) (fresh constants arities cs)
+AdmitMakesStates = (version : Version) (constants : ℕ) (arities : List ℕ) (cs : List calculus.Clause) (a : Opened) → a ≡ opened version constants arities cs → a .number ≡ accepted
+    → Admitted (fresh version constants arities cs) × StateOf (a .state) (fresh version constants arities cs)
 
 -- .. and so may be taken what stands beside a refusal: the state of no clauses is admitted too.
 abbrev pub AdmitKeeps : Type 0
-AdmitKeeps = (constants : ℕ) (arities : List ℕ) (cs : List calculus.Clause) (a : Opened) → a ≡ opened constants arities cs → Made (a .state)
+AdmitKeeps = (version : Version) (constants : ℕ) (arities : List ℕ) (cs : List calculus.Clause) (a : Opened) → a ≡ opened version constants arities cs → Made (a .state)
 
 -- ---- steps
 

@@ -8,23 +8,31 @@ ghost use Rattle.clauses.specs.Records.{packed};
 ghost use Rattle.admission.specs.Offered.{offeredArities, offeredTable};
 ghost use Rattle.state.specs.Runs.{startAgain};
 ghost use Rattle.state.specs.States.{Answers, IsNew, Made, newRun, opened};
+use asking::Named;
 use asking::Step;
+use asking::also;
+use asking::count_looked;
 use asking::last_slot;
 use asking::looked_at;
+use asking::named_rightly;
 use asking::number_looked;
 use asking::slot_of;
+use asking::source_atom;
+use basis::MOST_BROUGHT;
 use basis::MOST_CLAUSES;
 use basis::MOST_INPUT;
 use basis::MOST_PREDICATES;
+use basis::Version;
 use basis::Witness;
 use clauses::Clause;
+use clauses::no_atom;
 use clauses::no_clause;
 use clauses::no_instanced;
 use rules::Run;
 use trail::empty_trail;
 
-// "A state is predicates with arities, trail, input clauses, learned clauses, constants, level k, and a conflict or none." The fields are
-// private: what stands here was admitted or learned.
+// "A state is predicates with arities, trail, input clauses, learned clauses, constants, level k, and a conflict or none"; its run knows its
+// version. The fields are private: what stands here was admitted or learned.
 pub struct State {
     run: Run,
     predicates: u8,
@@ -52,12 +60,13 @@ pub struct Opened {
 // ---- admission
 
 // A run of no steps
-pub fn new_run(constants: u8, input: u8) -> Run
-    ensures { λ r. ⌜ r ≡ newRun constants input ⌝ }
+pub fn new_run(version: Version, constants: u8, input: u8) -> Run
+    ensures { λ r. ⌜ r ≡ newRun version constants input ⌝ }
 {
     let trail = empty_trail();
     let conflict = no_instanced();
     Run {
+        version: version,
         constants: constants,
         input: input,
         learned: 0,
@@ -101,6 +110,7 @@ fn with_room(clauses: [Clause; MOST_INPUT]) -> [Clause; MOST_CLAUSES]
 
 // The state in which nothing has been done, of clauses that were read
 fn new_state(
+    version: Version,
     constants: u8,
     predicates: u8,
     arities: [u8; MOST_PREDICATES],
@@ -108,9 +118,9 @@ fn new_state(
     clauses: [Clause; MOST_INPUT],
 ) -> State
     requires { ⌜ predicates ≤ mostPredicates ⌝ }
-    ensures { λ r. ⌜ IsNew constants (offeredArities predicates arities) count clauses r ⌝ }
+    ensures { λ r. ⌜ IsNew version constants (offeredArities predicates arities) count clauses r ⌝ }
 {
-    let run = new_run(constants, count);
+    let run = new_run(version, constants, count);
     let first = first_arities(predicates, arities);
     let table = with_room(clauses);
     State {
@@ -121,29 +131,31 @@ fn new_state(
     }
 }
 
-// "Only admission makes a state": clause records offered without a file "meet 3 to 7 .. before anything else; the place is then the number of
-// the first bad clause, or 0 .. for counts and arities, which are judged first." A refused file yields no state.
+// "Only admission makes a state", of the version that is offered: clause records offered without a file "meet 3 to 7 .. before anything else; the
+// place is then the number of the first bad clause, or 0 .. for counts and arities, which are judged first." A refused file yields no state.
 pub fn admit(
+    version: Version,
     constants: u8,
     predicates: u8,
     arities: [u8; MOST_PREDICATES],
     count: u8,
     clauses: [Clause; MOST_INPUT],
 ) -> Opened
-    ensures { λ r. ⌜ r ≡ opened constants (offeredArities predicates arities) (offeredTable (offeredArities predicates arities) count clauses) ⌝ }
+    ensures { λ r. ⌜ r ≡ opened version constants (offeredArities predicates arities) (offeredTable (offeredArities predicates arities) count clauses) ⌝ }
 {
     let read = admission::admit(constants, predicates, arities, count, clauses);
     let table = read.clauses;
     if read.number != 0 {
         let none = [0u8; MOST_PREDICATES];
-        let blank = new_state(0, 0, none, 0, table);
+        let first = Version::One;
+        let blank = new_state(first, 0, 0, none, 0, table);
         return Opened {
             state: blank,
             number: read.number,
             place: read.place,
         };
     }
-    let state = new_state(constants, predicates, arities, count, table);
+    let state = new_state(version, constants, predicates, arities, count, table);
     Opened {
         state: state,
         number: read.number,
@@ -165,11 +177,33 @@ impl State {
         let c = number_looked(last, x);
         let held = self.table[slot_of(c)];
         let looked = looked_at(c, held);
+        let version = run.version;
+        let n = count_looked(version, x);
+        let none = no_atom();
+        let mut right = true;
+        let mut at = [none; MOST_BROUGHT];
+        let mut j: usize = 0;
+        while j < n {
+            let z = x.atoms[j];
+            let own = self.table[slot_of(z.clause)];
+            let of = looked_at(z.clause, own);
+            let clause = of.clause;
+            right = also(
+                right,
+                named_rightly(run.constants, run.input, run.learned, z, clause),
+            );
+            at[j] = source_atom(z, clause);
+            j += 1;
+        }
+        let named = Named {
+            right: right,
+            at: at,
+        };
         let rule = x.rule;
         let instance = x.instance;
         let a = match rule {
             1 => run.propagate(looked, x.clause, x.literal, instance, x.count),
-            2 => run.decide(looked, x.clause, x.literal, x.sign, instance, x.count),
+            2 => run.decide(looked, named, x),
             3 => run.conflict(looked, x.clause, instance, x.count),
             4 => run.resolve(looked, x.literal),
             5 => run.factorize(x.literal, x.other),
@@ -201,7 +235,8 @@ impl State {
         ensures { λ r. ⌜ r ≡ startAgain self ⌝ }
     {
         let old = self.run;
-        let mut run = new_run(old.constants, old.input);
+        let version = old.version;
+        let mut run = new_run(version, old.constants, old.input);
         run.learned = old.learned;
         let mut state = self;
         state.run = run;

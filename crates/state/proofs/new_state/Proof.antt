@@ -7,7 +7,7 @@ use Rattle.state.proofs.new_state.Statement.{statement}
 use Rattle.state.proofs.new_state.Tie as tie
 
 returns : tie.Need-returns
-returns c = let a = c .before .before .before .args in λ cs e n h. (λ i. record { run = c .before .before .new-run .ensures i; predicates = sym (exactly-length 0 (a .predicates) (a .arities)) i; arities = c .before .first-arities .ensures i; table = c .with-room .ensures i }) ∙ new-is (a .constants) (a .count) (offeredArities (a .predicates) (a .arities)) (a .clauses) cs e n h
+returns c = let a = c .before .before .before .args in λ cs e n h. (λ i. record { run = c .before .before .new-run .ensures i; predicates = sym (exactly-length 0 (a .predicates) (a .arities)) i; arities = c .before .first-arities .ensures i; table = c .with-room .ensures i }) ∙ new-is (a .version) (a .constants) (a .count) (offeredArities (a .predicates) (a .arities)) (a .clauses) cs e n h
 
 pub new-state-spec : {M : Type 1} → statement M
 new-state-spec =

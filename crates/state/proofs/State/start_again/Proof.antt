@@ -8,7 +8,7 @@ use Rattle.rules.specs.declared.Run.{Run}
 -- The state with a new run in which its learned clauses are counted
 abbrev with : State → Run → State
 with s q = record {
-  run = record { trail = q .trail; conflict = q .conflict; constants = q .constants; input = q .input; learned = s .run .learned; level = q .level; length = q .length; stands = q .stands };
+  run = record { version = q .version; trail = q .trail; conflict = q .conflict; constants = q .constants; input = q .input; learned = s .run .learned; level = q .level; length = q .length; stands = q .stands };
   predicates = s .predicates;
   arities = s .arities;
   table = s .table;
