@@ -5,7 +5,7 @@ use mathlib.Core.Option.{Option, none, some}
 use Prim.Native.Nat.{ℕ}
 use Rattle.calculus.specs.Clauses.{Clause, Instanced}
 use Rattle.calculus.specs.States.{State, clauses}
-use Rattle.calculus.specs.Trails.{Entry, foreground, background, propagated, decided}
+use Rattle.calculus.specs.Trails.{Entry, Source, foreground, background, propagated, decided}
 use Rattle.text.specs.Text.{bytes, decimal}
 use Rattle.clausetext.specs.ClauseText.{inTurn, tupleText, atomText, literalText, clauseText}
 
@@ -15,11 +15,16 @@ use Rattle.clausetext.specs.ClauseText.{inTurn, tupleText, atomText, literalTex
 unfoldable pub stepText : (name : List ℕ) (clause literal : ℕ) (instance : List ℕ) → List ℕ
 stepText w c n τ = w ++ decimal c ++ bytes " " ++ decimal n ++ bytes " " ++ tupleText τ
 
--- An entry, as `P1(1,2) propagate 3 2 (1,2,1)`, `~P1(1) decide 1 1 (1)` or `1-2<=-4`. Decide's sign is the literal's.
+-- The source of an atom that a decision brought: clause, atom number, sign and instance, as ` brought 2 1 0 (1)`
+unfoldable pub sourceText : Source → List ℕ
+sourceText z = bytes " brought " ++ decimal (z .clause) ++ bytes " " ++ decimal (z .number) ++ bytes " " ++ decimal (z .sign) ++ bytes " " ++ tupleText (z .instance)
+
+-- An entry, as `P1(1,2) propagate 3 2 (1,2,1)`, `~P1(1) decide 1 1 (1)`, `1-2<=-4` or `1-0<=5 brought 2 1 1 (1)`. Decide's sign is the literal's.
 abbrev pub entryText : Entry → List ℕ
 entryText (foreground l (propagated c n τ)) = literalText l ++ stepText (bytes " propagate ") c n τ
-entryText (foreground l (decided c n b τ)) = literalText l ++ stepText (bytes " decide ") c n τ
-entryText (background a) = atomText a
+entryText (foreground l (decided c n b τ k)) = literalText l ++ stepText (bytes " decide ") c n τ
+entryText (background a none) = atomText a
+entryText (background a (some z)) = atomText a ++ sourceText z
 
 -- The line of the trail's entry number n
 unfoldable pub entryLine : ℕ → Entry → List ℕ

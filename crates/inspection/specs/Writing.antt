@@ -11,7 +11,7 @@ use Rattle.trail.specs.declared.Entry.{Entry}
 use Rattle.rules.specs.Answers.{RunOf}
 use Rattle.rules.specs.declared.Run.{Run}
 use Rattle.state.specs.States.{packedTable}
-use Rattle.clausetext.specs.Room.{mostNumber, mostTuple, mostLiteral, mostClauseText, Put}
+use Rattle.clausetext.specs.Room.{mostNumber, mostTuple, mostAtom, mostClauseText, Put}
 use Rattle.inspection.specs.StateText.{entryLine, clauseLine, stateText}
 
 -- ---- how long a text can be
@@ -24,9 +24,13 @@ mostRule = 11
 abbrev pub mostStep : ℕ
 mostStep = mostRule + mostNumber + 1 + mostNumber + 1 + mostTuple mostVariables
 
--- An atom is shorter than a literal with its step.
+-- ` brought 255 255 255 (..)`
+abbrev pub mostSource : ℕ
+mostSource = 9 + mostNumber + 1 + mostNumber + 1 + mostNumber + 1 + mostTuple mostVariables
+
+-- A literal with its step is shorter than an atom with its source.
 abbrev pub mostEntry : ℕ
-mostEntry = mostLiteral + mostStep
+mostEntry = mostAtom + mostSource
 
 -- `trail 255 ..` and the end of the line
 abbrev pub mostEntryLine : ℕ

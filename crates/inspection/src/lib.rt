@@ -9,9 +9,9 @@ ghost use Rattle.trail.specs.Entries.{entryOf};
 ghost use Rattle.rules.specs.Records.{conflictSaid};
 ghost use Rattle.clausetext.specs.ClauseText.{inTurn};
 ghost use Rattle.clausetext.specs.Room.{Put};
-ghost use Rattle.inspection.specs.StateText.{stepText, entryText, entryLine, clauseLine, firstLine, conflictText, conflictLine};
+ghost use Rattle.inspection.specs.StateText.{sourceText, stepText, entryText, entryLine, clauseLine, firstLine, conflictText, conflictLine};
 ghost use Rattle.inspection.specs.NumbersText.{listedNumber, mostListedNumber, mostNumbersLine, numbersLine};
-ghost use Rattle.inspection.specs.Writing.{mostRule, mostStep, mostEntry, mostEntryLine, mostClauseLine, mostFirstLine, mostConflict, mostConflictLine, mostState, entryLineOf, clauseLineOf, Beside, PutsState};
+ghost use Rattle.inspection.specs.Writing.{mostRule, mostSource, mostStep, mostEntry, mostEntryLine, mostClauseLine, mostFirstLine, mostConflict, mostConflictLine, mostState, entryLineOf, clauseLineOf, Beside, PutsState};
 use basis::MOST_CLAUSES;
 use basis::MOST_CONSTANTS;
 use basis::MOST_ENTRIES;
@@ -31,7 +31,7 @@ use trail::Entry;
 use trail::Kind;
 
 // No state's text has more bytes.
-pub const MOST_STATE: usize = 82070;
+pub const MOST_STATE: usize = 82550;
 
 // ---- the trail
 
@@ -49,6 +49,22 @@ fn put_step(out: &mut [u8], at: usize, name: &[u8], e: Entry) -> usize
     put_instance(out, second, instance, e.count)
 }
 
+// The source that a brought atom's entry keeps
+fn put_source(out: &mut [u8], at: usize, e: Entry) -> usize
+    requires { ⌜ at + mostSource ≤ length (now out) ⌝ }
+    ensures { λ r. ⌜ Put mostSource (now (out .entry)) at (sourceText (record { clause = e .clause; number = e .number; sign = e .sign; instance = take (e .count) (e .instance) })) (now (out .exit)) r ⌝ }
+{
+    let word = put_word(out, at, b" brought ");
+    let clause = put_number(out, word, e.clause);
+    let first = put_byte(out, clause, b' ');
+    let number = put_number(out, first, e.number);
+    let second = put_byte(out, number, b' ');
+    let sign = put_number(out, second, e.sign);
+    let third = put_byte(out, sign, b' ');
+    let instance = e.instance;
+    put_instance(out, third, instance, e.count)
+}
+
 fn put_entry(out: &mut [u8], at: usize, e: Entry) -> usize
     requires { ⌜ at + mostEntry ≤ length (now out) ⌝ }
     ensures { λ r. ⌜ Put mostEntry (now (out .entry)) at (entryText (entryOf e)) (now (out .exit)) r ⌝ }
@@ -58,6 +74,10 @@ fn put_entry(out: &mut [u8], at: usize, e: Entry) -> usize
     let l = e.literal;
     match kind {
         Kind::Background => put_atom(out, at, a),
+        Kind::Brought => {
+            let next = put_atom(out, at, a);
+            put_source(out, next, e)
+        }
         Kind::Propagated => {
             let next = put_literal(out, at, l);
             put_step(out, next, b" propagate ", e)

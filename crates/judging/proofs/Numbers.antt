@@ -1,56 +1,15 @@
--- What stands beneath the line of an accepted step: there is one such text, and the witness record has it.
-use mathlib.Core.Path.{_∙_, _≡_, ap, refl, subst, sym}
-use mathlib.Core.Bool.{Bool, _&&_, false, true}
-use mathlib.Core.List.{List}
-use mathlib.Core.Option.{Option, none, some}
-use Prim.Native.Nat.{ℕ, _≤_}
-use native.Mathlib.Omega.{arith}
-use lib.Dec.{eqb}
-use lib.IntN.{ℤ, pos}
-use lib.ListN.{length, take}
-use Rattle.basis.proofs.Choices.{less-zero-length}
-use Rattle.basis.specs.Limits.{mostConstants}
+-- Every file has a text with numbers.
+use mathlib.Core.Path.{refl, subst}
+use Prim.Native.Nat.{ℕ}
 use Rattle.basis.specs.Numbers.{whole}
-use Rattle.basis.specs.Refusals.{accepted}
-use Rattle.basis.specs.declared.Atom.{Atom}
-use Rattle.basis.specs.declared.Witness.{Witness}
-use Rattle.lists.proofs.Arrays.{take-exactly}
-use Rattle.calculus.specs.Handing.{Hands, HandsOn, tests}
-use Rattle.calculus.specs.Rules.{question}
+use Rattle.calculus.specs.Handing.{HandsOn}
 use Rattle.calculus.specs.Runs.{plain}
-use Rattle.calculus.specs.States.{State, Step}
-use Rattle.rules.proofs.Handing.{every-step-hands, hands-once}
-use Rattle.listing.specs.Claims.{BeneathAll, BeneathOnce}
+use Rattle.reaching.proofs.Handing.{every-step-hands}
+use Rattle.listing.specs.Claims.{BeneathAll}
 use Rattle.listing.proofs.Every.{answers-all, every-file-listed}
-use Rattle.inspection.specs.NumbersText.{numbersLine, numbersText}
-use Rattle.judging.specs.Judging.{EveryFileNumbered, inspected, numbersBeneath}
-use Rattle.judging.specs.Running.{beneath, textBeneath}
-use Rattle.constraint.specs.Witnesses.{packedWitness}
-
--- There are as many numbers as constants.
-hands-length : (c : Bool) (n : ℕ) (az : List Atom) (ns : List ℤ) → Hands c n az (some ns) → length ns ≡ n
-hands-length true n az ns (ms, M, e) = let same : ns ≡ ms = cc in ap length (same ∙ M .less-zero) ∙ less-zero-length n (M .choice)
-hands-length false n az ns e = let z : _≡_ {A = ℕ} 0 1 = cc in absurd (omega arith)
-
--- What a step hands on, of the state's constants, is what its witness record has beneath the line.
-module _ (s : State) (few : s .constants ≤ mostConstants) (x : Step) where
-  told-text : (h : Option (List ℤ)) → HandsOn s x accepted h → textBeneath true (s .constants) (packedWitness h) ≡ numbersText h
-  told-text none H = refl
-  told-text (some ns) H =
-      let long = hands-length (eqb accepted accepted && tests x) (s .constants) (question s x) ns H in
-      ap numbersLine (ap (λ (k : ℕ). take k (packedWitness (some ns) .numbers)) (sym long) ∙ take-exactly (pos 0) mostConstants ns (omega arith))
-
-  pub told-beneath : (numbered : Bool) {number constants : ℕ} (h : Option (List ℤ)) {w : Witness} → HandsOn s x number h → number ≡ accepted → constants ≡ s .constants → w ≡ packedWitness h
-      → beneath numbered s x (textBeneath numbered constants w)
-  told-beneath true h H z c e =
-      let H′ = subst (λ (k : ℕ). HandsOn s x k h) z H in
-      (h, H′, (λ i. textBeneath true (c i) (e i)) ∙ told-text h H′)
-  told-beneath false h H z c e = refl
-
--- ---- every file has one such text
-
-pub numbers-beneath-once : BeneathOnce (plain whole) numbersBeneath
-numbers-beneath-once s x u v (g, G, p) (h, H, q) = p ∙ ap numbersText (hands-once s x accepted g h G H) ∙ sym q
+use Rattle.inspection.specs.NumbersText.{numbersText}
+use Rattle.trying.specs.Texts.{inspected, numbersBeneath}
+use Rattle.judging.specs.Judging.{EveryFileNumbered}
 
 numbers-all : BeneathAll (plain whole) numbersBeneath
 numbers-all s R x a j z = let (h, H) = every-step-hands s x a R j in (numbersText h, (h, subst (λ (k : ℕ). HandsOn s x k h) z H, refl))

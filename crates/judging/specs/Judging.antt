@@ -1,13 +1,9 @@
 -- What judging a file answers, and what it leaves of a lent buffer: from bytes to bytes.
 use mathlib.Core.Path.{_≡_}
 use mathlib.Core.List.{List, _++_}
-use mathlib.Core.Option.{Option}
 use Prim.Native.Nat.{ℕ, _+_, _*_, _≤_, _<_}
-use lib.IntN.{ℤ}
 use lib.ListN.{length, take, drop}
 use Rattle.basis.specs.Numbers.{whole}
-use Rattle.basis.specs.Refusals.{accepted}
-use Rattle.calculus.specs.Handing.{HandsOn}
 use Rattle.calculus.specs.Rules.{Answer}
 use Rattle.calculus.specs.Runs.{AnswersOnce, Judge, plain}
 use Rattle.calculus.specs.Truth.{NoModel}
@@ -17,9 +13,8 @@ use Rattle.text.specs.Text.{bytes}
 use Rattle.listing.specs.Lines.{lastLine}
 use Rattle.listing.specs.Claims.{BeneathOnce}
 use Rattle.listing.specs.Listing.{Beneath, Ends, Printed, mostListing, nothing}
-use Rattle.inspection.specs.NumbersText.{mostNumbersLine, numbersText}
-use Rattle.inspection.specs.StateText.{stateText}
-use Rattle.inspection.specs.Writing.{mostState}
+use Rattle.inspection.specs.NumbersText.{mostNumbersLine}
+use Rattle.trying.specs.Texts.{inspected, mostInspection, numbersBeneath}
 use Rattle.judging.specs.declared.Written.{Written}
 use Rattle.judging.specs.declared.Written.the-variants.{Bytes, Short}
 
@@ -34,22 +29,11 @@ Leaves J B after most s d d′ Short = (length d < most) × (d′ ≡ d)
 abbrev pub Lists : (s d d′ : List ℕ) → Written → Type 0
 Lists s d d′ r = Leaves (plain whole) (nothing (plain whole)) lastLine mostListing s d d′ r
 
--- What comes after the steps' lines for reviewers: the last line, and then the final state
-abbrev pub inspected : Answer → List ℕ
-inspected e = lastLine e ++ stateText (e .state)
-
-abbrev pub mostInspection : ℕ
-mostInspection = mostListing + mostState
-
 -- What `inspect` answers of the file s, and what it leaves of the buffer d: the listing and the final state.
 abbrev pub Shows : (s d d′ : List ℕ) → Written → Type 0
 Shows s d d′ r = Leaves (plain whole) (nothing (plain whole)) inspected mostInspection s d d′ r
 
--- With numbers, a line of them comes after the line of each accepted step that hands numbers on.
-abbrev pub numbersBeneath : Beneath (plain whole)
-numbersBeneath s x u = (h : Option (List ℤ)) × HandsOn s x accepted h × (u ≡ numbersText h)
-
--- Such a line for every step at most
+-- A line of numbers for every step at most
 abbrev pub mostWithNumbers : ℕ
 mostWithNumbers = mostInspection + mostSteps * mostNumbersLine
 
@@ -72,6 +56,11 @@ ShowsOnce = (s d d₁ d₂ : List ℕ) (r₁ r₂ : Written) → Shows s d d₁ 
 
 abbrev pub ShowsNumbersOnce : Type 0
 ShowsNumbersOnce = (s d d₁ d₂ : List ℕ) (r₁ r₂ : Written) → ShowsNumbers s d d₁ r₁ → ShowsNumbers s d d₂ r₂ → (r₁ ≡ r₂) × (d₁ ≡ d₂)
+
+-- The bytes written end within the buffer.
+abbrev pub WrittenWithin : List ℕ → Written → Type 0
+WrittenWithin d (Bytes n k p) = n ≤ length d
+WrittenWithin d Short = Unit {0}
 
 -- Every file has a text with numbers. Proved in proofs/Numbers.antt.
 abbrev pub EveryFileNumbered : Type 0

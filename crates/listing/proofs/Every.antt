@@ -16,7 +16,7 @@ use Rattle.runfile.specs.Readers.{Got, got, bad}
 use Rattle.runfile.specs.File.{File, file, opened}
 use Rattle.runfile.specs.Claims.{Outcome}
 use Rattle.runfile.proofs.Given.{every-file}
-use Rattle.rules.proofs.Told.{decided}
+use Rattle.reaching.proofs.Handing.{decided}
 use Rattle.listing.specs.Lines.{acceptedLine, refusedLine}
 use Rattle.listing.specs.Listing.{Beneath, Printed, TriedWith, badFile, goodFile, nothing, refused, through, went}
 use Rattle.listing.specs.Claims.{BeneathAll, EveryFileListed, TriedAlike}

@@ -1,10 +1,12 @@
 -- How long a listing can be.
-use mathlib.Core.Path.{ap, subst}
+use mathlib.Core.Path.{_≡_, ap, subst}
+use mathlib.Core.Logic.{_⊎_, inl, inr}
 use mathlib.Core.List.{List, [], _∷_, _++_}
-use Prim.Native.Nat.{ℕ, _+_, _*_, _≤_}
+use Prim.Native.Nat.{ℕ, _+_, _*_, _≤_, _<_}
 use native.Mathlib.Omega.{arith}
 use lib.ListN.{length, length-append}
 use Rattle.basis.specs.Numbers.{whole}
+use Rattle.basis.specs.Refusals.{endsInside, surplus, tooLong}
 use Rattle.calculus.specs.Rules.{Reply}
 use Rattle.calculus.specs.Runs.{Judge, Reached, plain, stated}
 use Rattle.calculus.specs.States.{Step}
@@ -14,7 +16,7 @@ use Rattle.calculus.proofs.Runs.{admitted-reached, steps-keep-reached}
 use Rattle.runfile.specs.File.{mostSteps, opened}
 use Rattle.runfile.specs.Claims.{Outcome}
 use Rattle.runfile.proofs.Given.{every-file}
-use Rattle.rules.proofs.Reached.{reached-fine, decisions-few}
+use Rattle.reaching.proofs.Reached.{reached-fine, decisions-few}
 use Rattle.listing.specs.Lines.{acceptedLine, lastLine, mostLine}
 use Rattle.listing.specs.Listing.{Tried, through, refused, went, badFile, goodFile}
 use Rattle.listing.specs.Claims.{ListingFits, Modest, PlainJudge}
@@ -33,10 +35,15 @@ module _ (J : Judge) (M : Modest J) where
       let rest = tried-length xs R′ (omega arith) t in
       omega (arith, line, rest, ap length b, length-append u w, length-append (acceptedLine n x (length (s .trail)) (s .level)) (u ++ w))
 
+-- The number by which a file is refused is a byte.
+file-refusal : {n : ℕ} → ((endsInside ≤ n) × (n ≤ surplus)) ⊎ (n ≡ tooLong) → n < 256
+file-refusal (inl (least, most)) = omega arith
+file-refusal (inr is) = omega arith
+
 pub listing-fits : ListingFits
 listing-fits J M s w h (badFile n p f) =
     let r = subst (Outcome s) f (every-file s) in
-    omega (arith, length-bad n p (omega (arith, r .most)) (omega (arith, r .in-file)))
+    omega (arith, length-bad n p (file-refusal (r .in-table)) (omega (arith, r .in-file)))
 listing-fits J M s w h (goodFile F next {w = lines} a f t) =
     let (sayable, whole-file) = subst (Outcome s) f (every-file s) in
     let l = tried-length J M (F .steps) (admitted-reached J (opened F) (sayable .admitted)) (omega (arith, sayable .few-steps)) t in

@@ -23,7 +23,7 @@ use Rattle.listing.specs.Records.{ClosesAsLast}
 
 pub length-name : (x : Step) → length (ruleName x) ≤ mostName
 length-name (Propagate c l τ) = lit≤ tt
-length-name (Decide c l sign τ) = lit≤ tt
+length-name (Decide c l sign τ zs) = lit≤ tt
 length-name (Conflict c τ) = lit≤ tt
 length-name (Resolve l) = lit≤ tt
 length-name (Factorize l m) = lit≤ tt

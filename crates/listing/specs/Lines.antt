@@ -14,7 +14,7 @@ use Rattle.text.specs.Text.{bytes, decimal}
 -- "Rule name in small letters"; no file has an unknown rule.
 abbrev pub ruleName : Step → List ℕ
 ruleName (Propagate c l τ) = bytes "propagate"
-ruleName (Decide c l sign τ) = bytes "decide"
+ruleName (Decide c l sign τ zs) = bytes "decide"
 ruleName (Conflict c τ) = bytes "conflict"
 ruleName (Resolve l) = bytes "resolve"
 ruleName (Factorize l m) = bytes "factorize"

@@ -1,43 +1,52 @@
 -- The run so far: what holds before each turn of the loop over the steps, and how a turn goes on from it.
 use mathlib.Core.Path.{_≡_, refl, sym, ap, subst, transport⁻¹, _∙_}
 use mathlib.Core.List.{List, [], _∷_, _++_, append-assoc, append-nil, map}
-use mathlib.Core.Bool.{Bool, true, false}
+use mathlib.Core.Bool.{Bool, _&&_, true, false}
 use Prim.Native.Nat.{ℕ, _+_, _-_, _*_, _≤_, _<_}
+use native.Mathlib.Decide.{ℕ-discrete}
 use native.Mathlib.Omega.{arith}
-use lib.ListN.{length, getD, drop-of-length-le}
-use Rattle.basis.specs.Limits.{mostClauses, mostConstants}
+use lib.ListN.{length, getD, set, drop-of-length-le}
+use Rattle.basis.specs.Limits.{mostBrought, mostClauses, mostConstants}
 use Rattle.basis.specs.Numbers.{whole}
 use Rattle.basis.specs.Refusals.{accepted}
+use Rattle.basis.specs.Versions.{formOf}
+use Rattle.basis.specs.declared.Atom.{Atom}
+use Rattle.basis.specs.declared.Form.{Form}
+use Rattle.basis.specs.declared.Version.{Version}
 use Rattle.lists.specs.Arrays.{exactly}
 use Rattle.calculus.specs.Clauses as calculus
-use Rattle.calculus.specs.Rules.{Answer}
+use Rattle.calculus.specs.Conditions.{Judged}
+use Rattle.calculus.specs.Rules.{Answer, next, sourceIn}
 use Rattle.calculus.specs.Runs.{Reached, plain}
 use Rattle.calculus.specs.States as states
-use Rattle.calculus.specs.States.{clauses}
+use Rattle.calculus.specs.States.{Backtrack, Conflict, Decide, Factorize, Grow, Propagate, Resolve, Skip, Unknown, clauses}
 use Rattle.calculus.proofs.Answers.{number-in-table}
 use Rattle.calculus.proofs.Runs.{admitted-reached, steps-keep-reached}
 use Rattle.runfile.specs.Readers.{got}
 use Rattle.runfile.specs.File.{File, file, header, mostSteps, step, opened}
 use Rattle.fields.specs.declared.Cursor.the-variants as C
-use Rattle.clauses.specs.Records.{packed}
+use Rattle.clauses.specs.Records.{clauseOf, packed}
 use Rattle.clauses.specs.declared.Clause.{Clause}
 use Rattle.clauses.proofs.Records.{pastTable}
 use Rattle.header.specs.Records.{inputOf}
 use Rattle.header.specs.declared.HeaderRead.{HeaderRead}
-use Rattle.rules.specs.Answers.{RunOf, Told, Answered, Handed, Kept}
-use Rattle.asking.specs.Looking.{lookedAt, lookedIn, numberLooked, slotOf}
+use Rattle.rules.specs.Answers.{AnsweredNamed, Handed, HandedNamed, Kept, RunOf, Told}
+use Rattle.asking.specs.Looking.{countLooked, lookedAt, lookedIn, namedAt, numberLooked, rightIn, slotOf}
 use Rattle.rules.specs.Records.{packedRun}
-use Rattle.asking.specs.Steps.{stepOf}
+use Rattle.asking.specs.Steps.{sourceOf, stepOf}
 use Rattle.asking.specs.declared.Looked.{Looked}
+use Rattle.asking.specs.declared.Named.{Named}
+use Rattle.asking.proofs.Finding.{named-last, named-turn, namedUpto}
+use Rattle.asking.proofs.Sources.{pastSource}
 use Rattle.rules.specs.declared.Run.{Run}
 use Rattle.asking.specs.declared.Step.{Step}
 use Rattle.rules.specs.declared.Stepped.{Stepped}
-use Rattle.rules.proofs.Runs.{kept-small}
+use Rattle.rules.proofs.Runs.{clauses-is, constants-is, fine, kept-small, version-is}
 use Rattle.steps.specs.Records.{fileAnswer, stepAnswer}
 use Rattle.steps.specs.declared.StepRead.{StepRead}
 use Rattle.steps.proofs.Files.{Ahead, Reads, Stepping, file-reads, step-ahead}
 use Rattle.state.specs.States.{newRun, packedTable, tableAfter}
-use Rattle.state.proofs.Table.{looks-at, table-after}
+use Rattle.state.proofs.Table.{found, looks-at, table-after}
 use Rattle.text.specs.Text.{Wrote}
 use Rattle.clausetext.specs.Room.{Put}
 use Rattle.text.proofs.Text.{and-then, as-text, same-long}
@@ -45,24 +54,27 @@ use Rattle.listing.specs.Lines.{acceptedLine, mostLine, refusedLine}
 use Rattle.listing.specs.Listing.{TriedWith, went, refused, through}
 use Rattle.listing.proofs.Lines.{length-accepted, length-refused}
 use Rattle.trail.specs.Entries.{pastEnd}
-use Rattle.judging.specs.Running.{beneath, mostBeneath, mostText, placeOf, textBeneath}
-use Rattle.judging.proofs.Numbers.{told-beneath}
+use Rattle.trying.specs.Running.{placeOf, textBeneath}
+use Rattle.trying.specs.Texts.{beneath, mostBeneath, mostText}
+use Rattle.trying.proofs.Numbers.{told-beneath}
 
 -- The most bytes of a step's line and what stands beneath it
 abbrev pub mostOf : Bool → ℕ
 mostOf numbered = mostLine + mostBeneath numbered
 
--- j of n steps have been tried and accepted: the others stand ahead of the cursor, and whatever comes of them completes what was tried.
-pub record SoFar (numbered : Bool) (s d : List ℕ) (n : ℕ) (d′ : List ℕ) (run : Run) (table : List Clause) (cursor at j : ℕ) : Type 0 where
+-- j of n steps have been tried and accepted: the others stand ahead of the cursor, as the version has them, and whatever comes of them completes
+-- what was tried.
+pub record SoFar (numbered : Bool) (s d : List ℕ) (version : Version) (n : ℕ) (d′ : List ℕ) (run : Run) (table : List Clause) (cursor at j : ℕ) : Type 0 where
   pub says : File
   pub next : ℕ
   pub is : file s ≡ got says next
   pub others : List states.Step
-  pub ahead : Ahead s cursor others
+  pub ahead : Ahead s (formOf version) cursor others
   pub count : n ≡ j + length others
   pub few : n ≤ mostSteps
   pub state : states.State
   pub run-of : RunOf run state
+  pub of-version : version ≡ state .version
   pub table-is : table ≡ packedTable (clauses state)
   pub lines : List ℕ
   pub wrote : Wrote d 0 lines d′ at
@@ -94,18 +106,19 @@ ran-as {numbered} {s} {d} {run = run} {table} ran e a k p = transport⁻¹ (λ i
 -- ---- before the first step
 
 pub start : (numbered : Bool) (s d : List ℕ) (h : HeaderRead) (first : ℕ) {run : Run} {table : List Clause} → h ≡ fileAnswer s → h .at ≡ C.At first
-    → run ≡ newRun (h .constants) (h .input) → table ≡ exactly mostClauses (packed calculus.noClause) (map packed (inputOf (header s 0))) → SoFar numbered s d (h .steps) d run table first 0 0
+    → run ≡ newRun (h .version) (h .constants) (h .input) → table ≡ exactly mostClauses (packed calculus.noClause) (map packed (inputOf (header s 0))) → SoFar numbered s d (h .version) (h .steps) d run table first 0 0
 unfolding packedTable
 start numbered s d h first {run} {table} e q r t = record {
   says = F;
   next = f .next;
   is = f .is;
   others = F .steps;
-  ahead = f .ahead;
+  ahead = subst (λ (v : Version). Ahead s (formOf v) first (F .steps)) (sym header-version) (f .ahead);
   count = omega (arith, ap (λ (k : HeaderRead). k .steps) (f .head));
   few = omega (arith, ap (λ (k : HeaderRead). k .steps) (f .head), f .sayable .few-steps);
   state = opened F;
-  run-of = record { reached = admitted-reached (plain whole) (opened F) (f .sayable .admitted); is = r ∙ (λ i. newRun (f .head i .constants) (f .head i .input)) };
+  run-of = record { reached = admitted-reached (plain whole) (opened F) (f .sayable .admitted); is = r ∙ (λ i. newRun (f .head i .version) (f .head i .constants) (f .head i .input)) };
+  of-version = header-version;
   table-is = t ∙ ap (λ (l : List calculus.Clause). exactly mostClauses (packed calculus.noClause) (map packed l)) (f .input ∙ sym (append-nil (F .input)));
   lines = [];
   wrote = record { next = omega arith; left = refl };
@@ -119,7 +132,33 @@ start numbered s d h first {run} {table} e q r t = record {
     F : File
     F = f .says
 
+    header-version : h .version ≡ F .version
+    header-version = ap (λ (k : HeaderRead). k .version) (f .head)
+
 -- ---- a turn
+
+-- No step changes the version.
+next-version : (s : states.State) (x : states.Step) → next s x .version ≡ s .version
+next-version s (Propagate c l τ) = refl
+next-version s (Decide c l g τ zs) = refl
+next-version s (Conflict c τ) = refl
+next-version s (Resolve l) = refl
+next-version s (Factorize l m) = refl
+next-version s Skip = refl
+next-version s (Backtrack l) = refl
+next-version s (Grow m) = refl
+next-version s (Unknown r) = refl
+
+version-kept : (s : states.State) (x : states.Step) (b : Answer) → Judged whole s x b → b .state .version ≡ s .version
+version-kept s x b j = elim (ℕ-discrete (b .number) accepted) [
+  | yes e ↦ ap (λ (q : states.State). q .version) (j .next-state e) ∙ next-version s x
+  | no e ↦ ap (λ (q : states.State). q .version) (j .handed-back e)
+]
+
+-- After i turns of the loop over the atoms that the step x names, the record says what the first i are, of every state whose records run and
+-- table are.
+abbrev pub Finds : Run → List Clause → Step → ℕ → Named → Type 0
+Finds run table x i named = (s : states.State) → RunOf run s → table ≡ packedTable (clauses s) → named ≡ namedUpto s x i
 
 -- There is room for one step more: for its line and what stands beneath it.
 step-fits : (numbered shown : Bool) (j : ℕ) {at l : ℕ} → at ≤ j * mostOf numbered → j < mostSteps → mostText numbered shown ≤ l → at + mostOf numbered ≤ l
@@ -136,7 +175,7 @@ all-tried : (numbered : Bool) (j : ℕ) {at : ℕ} → at ≤ j * mostOf numbere
 all-tried true j h k = omega arith
 all-tried false j h k = omega arith
 
-module _ {numbered : Bool} {s d d′ : List ℕ} {n cursor at j : ℕ} {run : Run} {table : List Clause} (S : SoFar numbered s d n d′ run table cursor at j) where
+module _ {numbered : Bool} {s d d′ : List ℕ} {version : Version} {n cursor at j : ℕ} {run : Run} {table : List Clause} (S : SoFar numbered s d version n d′ run table cursor at j) where
   step-room : j < n → (shown : Bool) → mostText numbered shown ≤ length d → at + mostOf numbered ≤ length d′
   step-room h shown k = omega (arith, step-fits numbered shown j {l = length d} (S .short) (omega (arith, S .few)) k, same-long (S .wrote))
 
@@ -147,22 +186,45 @@ module _ {numbered : Bool} {s d d′ : List ℕ} {n cursor at j : ℕ} {run : Ru
   pub kept : Kept run
   kept = (S .state, S .run-of)
 
-  -- The step x was read, and what it looks at found in the table.
-  module _ (x : Step) {i c k : ℕ} {q : Looked} (last : i ≡ run .length - 1) (number : c ≡ numberLooked (getD (run .trail) i pastEnd) x) (slot : k ≡ slotOf c) (looked : q ≡ lookedIn c (getD table k pastTable)) where
-    looks : q ≡ lookedAt (S .state) (stepOf x)
-    looks = looks-at (S .run-of) (S .table-is) x last number slot looked
+  -- The version, as the run has it
+  run-version : version ≡ run .version
+  run-version = S .of-version ∙ sym (version-is (S .run-of))
 
-    pub handed : Handed run q (stepOf x)
-    handed = (S .state, S .run-of, looks)
+  -- The step x was read, of the clause table it looks at q, and m atoms of it are looked at there.
+  module _ (x : Step) {m : ℕ} (count : m ≡ countLooked version x) where
+    -- One turn more of the loop over these atoms
+    pub finds-more : (i : ℕ) → i < m → length (x .atoms) ≡ mostBrought → {k : ℕ} {q : Looked} {right b right′ : Bool} {az : List Atom} {a : Atom}
+        → k ≡ slotOf (getD (x .atoms) i pastSource .clause) → q ≡ lookedIn (getD (x .atoms) i pastSource .clause) (getD table k pastTable)
+        → b ≡ rightIn (run .constants) (run .input + run .learned) (q .clause) (getD (x .atoms) i pastSource) → right′ ≡ (right && b)
+        → a ≡ sourceIn (clauseOf (q .clause)) (sourceOf (getD (x .atoms) i pastSource))
+        → Finds run table x i (record { right = right; at = az }) → Finds run table x (i + 1) (record { right = right′; at = set az i a })
+    finds-more i h long slot looked right-is so atom found-before z R is =
+        named-turn z (fine R .limited) table (found R is pastTable) x i (constants-is R) (clauses-is R)
+        (omega (arith, count, ap (λ (v : Version). countLooked v x) (run-version ∙ version-is R))) long slot looked right-is so atom (found-before z R is)
 
-    -- What was answered is told of the state that stands.
-    pub told-of : {a : Stepped} → Answered run q (stepOf x) a → Told (S .state) (stepOf x) a
-    told-of answered = answered (S .state) (S .run-of) looks
+    -- The last turn is over, and what the step looks at was found.
+    module _ {i : ℕ} (over : m ≤ i) {named : Named} (names : Finds run table x i named)
+        {e c k : ℕ} {q : Looked} (last : e ≡ run .length - 1) (number : c ≡ numberLooked (getD (run .trail) e pastEnd) x) (slot : k ≡ slotOf c) (looked : q ≡ lookedIn c (getD table k pastTable)) where
+      looks : q ≡ lookedAt (S .state) (stepOf x)
+      looks = looks-at (S .run-of) (S .table-is) x last number slot looked
+
+      named-is : named ≡ namedAt (S .state) (stepOf x)
+      named-is = names (S .state) (S .run-of) (S .table-is) ∙ named-last (S .state) x (count ∙ ap (λ (v : Version). countLooked v x) (S .of-version)) over
+
+      pub handed : Handed run q (stepOf x)
+      handed = (S .state, S .run-of, looks)
+
+      pub handed-named : HandedNamed run q named (stepOf x)
+      handed-named = (S .state, S .run-of, looks, named-is)
+
+      -- What was answered is told of the state that stands.
+      pub told-of : {a : Stepped} → AnsweredNamed run q named (stepOf x) a → Told (S .state) (stepOf x) a
+      told-of answered = answered (S .state) (S .run-of) looks named-is
 
   -- The step r was read and answered by a.
-  module _ (h : j < n) {r : StepRead} (e : r ≡ stepAnswer (step s cursor)) {a : Stepped} (told : Told (S .state) (stepOf (r .step)) a) where
-    now : Stepping s (S .others) r
-    now = step-ahead s cursor (S .others) r (S .ahead) (omega (arith, S .count)) e
+  module _ (h : j < n) {form : Form} (form-is : form ≡ formOf version) {r : StepRead} (e : r ≡ stepAnswer (step form s cursor)) {a : Stepped} (told : Told (S .state) (stepOf (r .step)) a) where
+    now : Stepping s (formOf version) (S .others) r
+    now = step-ahead s (formOf version) cursor (S .others) r (S .ahead) (omega (arith, S .count)) (e ∙ ap (λ (f : Form). stepAnswer (step f s cursor)) form-is)
 
     others-is : stepOf (r .step) ∷ now .others ≡ S .others
     others-is = ap (λ (x : states.Step). x ∷ now .others) (now .says) ∙ sym (now .all)
@@ -230,17 +292,18 @@ module _ {numbered : Bool} {s d d′ : List ℕ} {n cursor at j : ℕ} {run : Ru
     pub turn : a .number ≡ 0 → {run₂ : Run} → run₂ ≡ a .run → {table₂ : List Clause} → table₂ ≡ tableAfter table run a
         → {d₁ d₂ : List ℕ} {at₁ at₂ : ℕ} → Wrote d′ at (acceptedLine (j + 1) (stepOf (r .step)) (run₂ .length) (run₂ .level)) d₁ at₁
         → Put (mostBeneath numbered) d₁ at₁ (textBeneath numbered (run .constants) (a .witness)) d₂ at₂ → {cursor₂ : ℕ} → cursor₂ ≡ placeOf (r .at)
-        → SoFar numbered s d n d₂ run₂ table₂ cursor₂ at₂ (j + 1)
+        → SoFar numbered s d version n d₂ run₂ table₂ cursor₂ at₂ (j + 1)
     turn z {run₂} ran {table₂} table-new w u past = record {
       says = S .says;
       next = S .next;
       is = S .is;
       others = now .others;
-      ahead = subst (λ (i : ℕ). Ahead s i (now .others)) (sym (past ∙ ap placeOf (now .at))) (now .ahead);
+      ahead = subst (λ (i : ℕ). Ahead s (formOf version) i (now .others)) (sym (past ∙ ap placeOf (now .at))) (now .ahead);
       count = omega (arith, S .count, ap length (now .all));
       few = S .few;
       state = b .state;
       run-of = run-next ran;
+      of-version = S .of-version ∙ sym (version-kept (S .state) x b (told .2));
       table-is = table-new ∙ table-after (S .run-of) x a told (S .table-is);
       lines = S .lines ++ (line (b .state) ++ under);
       wrote = and-then (S .wrote) (and-then (as-text (λ i. acceptedLine (j + 1) x (run-next ran .is i .length) (run-next ran .is i .level)) w) (u .wrote));
@@ -258,18 +321,15 @@ module _ {numbered : Bool} {s d d′ : List ℕ} {n cursor at j : ℕ} {run : Ru
         under : List ℕ
         under = textBeneath numbered (run .constants) (a .witness)
 
-        constants-is : run .constants ≡ S .state .constants
-        constants-is = ap (λ (q : Run). q .constants) (S .run-of .is)
-
         stands-beneath : beneath numbered (S .state) x under
-        stands-beneath = told-beneath (S .state) (omega (arith, few-constants, constants-is)) x numbered (told .1) (told .3) (sym number-is ∙ z) constants-is (ap (λ (q : Stepped). q .witness) (told .4))
+        stands-beneath = told-beneath (S .state) (omega (arith, few-constants, constants-is (S .run-of))) x numbered (told .1) (told .3) (sym number-is ∙ z) (constants-is (S .run-of)) (ap (λ (q : Stepped). q .witness) (told .4))
 
         grouped : (v : List ℕ) → S .lines ++ (line (b .state) ++ (under ++ v)) ≡ (S .lines ++ (line (b .state) ++ under)) ++ v
         grouped v = simp append-assoc
 
 -- ---- after the last step
 
-pub done : {numbered : Bool} {s d d′ : List ℕ} {n cursor at j : ℕ} {run : Run} {table : List Clause} → SoFar numbered s d n d′ run table cursor at j → n ≤ j
+pub done : {numbered : Bool} {s d d′ : List ℕ} {version : Version} {n cursor at j : ℕ} {run : Run} {table : List Clause} → SoFar numbered s d version n d′ run table cursor at j → n ≤ j
     → Ran numbered s d d′ run table 0 0 at
 done {numbered} {j = j} S h = record {
   says = S .says;

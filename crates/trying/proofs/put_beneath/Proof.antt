@@ -1,9 +1,9 @@
--- `judging::put_beneath` meets its contract.
+-- `trying::put_beneath` meets its contract.
 use borrow.Author.Needs.{needs}
 use native.Mathlib.Omega.{arith}
 use Rattle.text.proofs.Text.{wrote-none}
-use Rattle.judging.proofs.put_beneath.Statement.{statement}
-use Rattle.judging.proofs.put_beneath.Tie as tie
+use Rattle.trying.proofs.put_beneath.Statement.{statement}
+use Rattle.trying.proofs.put_beneath.Tie as tie
 
 put-numbers-requires : tie.Need-put-numbers-requires
 put-numbers-requires c κs = (c .before .before .before .before .before .pre .0, rw (c .before .before .before .if1 .taken) at (c .before .before .before .before .before .pre .1))
