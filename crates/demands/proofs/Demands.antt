@@ -8,6 +8,7 @@ use native.Mathlib.Omega.{arith}
 use lib.ListN.{length, take, drop}
 use Rattle.basis.specs.Numbers.{whole}
 use Rattle.basis.specs.Refusals.{accepted, noRoom}
+use Rattle.basis.specs.declared.Version.{Version}
 use Rattle.calculus.specs.Admission.{fresh}
 use Rattle.calculus.specs.Clauses as calculus
 use Rattle.calculus.specs.Rules.{Answer}
@@ -23,7 +24,7 @@ use Rattle.runfile.specs.Claims.{Outcome}
 use Rattle.runfile.specs.File.{File, file, opened}
 use Rattle.runfile.specs.Readers.{Got, got, bad}
 use Rattle.runfile.proofs.Given.{every-file}
-use Rattle.rules.proofs.Runs.{some-conflict}
+use Rattle.reaching.proofs.Reached.{some-conflict}
 use Rattle.listing.specs.Lines.{badLine, lastLine}
 use Rattle.listing.specs.Listing.{Ends, Listing, Tried, badFile, goodFile, mostListing, nothing, refused, through, went, withFile, withStep}
 use Rattle.listing.proofs.Every.{answers-all, every-file-listed}
@@ -88,7 +89,7 @@ file-right s d d′ (Bytes n k p) (room, ends, (w, listing, count, left)) = go e
     go (withFile number place f) (bad m q) g o =
         let m-is : m ≡ number = cc in
         let q-is : q ≡ place = cc in
-        FileAnswered.refused f (rw (sym m-is) (o .least)) (rw (sym m-is) (o .most)) (rw (sym q-is) (o .in-file)) (text ∙ printed-once (plain whole) (answers.answer-unique whole) (nothing (plain whole)) (nothing-once (plain whole)) lastLine s w (badLine number place) listing (badFile number place f))
+        FileAnswered.refused f (rw (sym m-is) (o .in-table)) (rw (sym q-is) (o .in-file)) (text ∙ printed-once (plain whole) (answers.answer-unique whole) (nothing (plain whole)) (nothing-once (plain whole)) lastLine s w (badLine number place) listing (badFile number place f))
     go (withStep F next e f t) (bad m q) g o = absurd (let z : _≡_ {A = ℕ} 0 1 = cc in omega arith)
     go (withStep F next e f t) (got G m) g o = FileAnswered.listed G (g ∙ ap (got G) (o .1)) (subst (Listing s) (sym text) listing) (tried-in-table (F .steps) t)
 
@@ -104,13 +105,13 @@ step-right r x a (s, S) h =
       made = step-keeps r x a (s, S) h;
     }
 
-admit-right : (constants : ℕ) (arities : List ℕ) (cs : List calculus.Clause) (a : Opened) → a ≡ state.opened constants arities cs → AdmitAnswered constants arities cs a × Made (a .state)
-admit-right constants arities cs a e = (
+admit-right : (version : Version) (constants : ℕ) (arities : List ℕ) (cs : List calculus.Clause) (a : Opened) → a ≡ state.opened version constants arities cs → AdmitAnswered version constants arities cs a × Made (a .state)
+admit-right version constants arities cs a e = (
   elim (ℕ-discrete (a .number) accepted) [
-    | yes h ↦ let (k, S) = admit-makes-states constants arities cs a e h in AdmitAnswered.made h k S
-    | no h ↦ let (least, most, is) = admit-refused constants arities cs a e h in AdmitAnswered.refused least most is
+    | yes h ↦ let (k, S) = admit-makes-states version constants arities cs a e h in AdmitAnswered.made h k S
+    | no h ↦ let (least, most, is) = admit-refused version constants arities cs a e h in AdmitAnswered.refused least most is
   ],
-  admit-keeps constants arities cs a e,
+  admit-keeps version constants arities cs a e,
 )
 
 pub demand-1 : Demand1
@@ -152,9 +153,9 @@ sound-from s₀ S xs r run t =
 pub demand-2 : Demand2
 demand-2 = record {
   by-the-rule = by-the-rule;
-  sound = λ constants arities cs a e h xs r run t.
-      let (k, S) = admit-makes-states constants arities cs a e h in
-      sound-from (fresh constants arities cs) (admitted-sound whole (fresh constants arities cs) k) xs r (subst (λ (q : State). CodeRun q xs r) (S .is) run) t;
+  sound = λ version constants arities cs a e h xs r run t.
+      let (k, S) = admit-makes-states version constants arities cs a e h in
+      sound-from (fresh version constants arities cs) (admitted-sound whole (fresh version constants arities cs) k) xs r (subst (λ (q : State). CodeRun q xs r) (S .is) run) t;
   sound-from = sound-from;
   file-sound = end-to-end;
 }
@@ -163,10 +164,10 @@ demand-2 = record {
 
 pub demand-3 : Demand3
 demand-3 = record {
-  replayed = λ constants arities cs a e h xs r run free.
-      let (k, S) = admit-makes-states constants arities cs a e h in
-      let (s, steps, is) = code-runs-are-runs (fresh constants arities cs) r xs (S .reached) (subst (λ (q : State). CodeRun q xs r) (S .is) run) in
-      code-replays r (s, record { reached = record { first = fresh constants arities cs; steps = map stepOf xs; start = admitted-starts (fresh constants arities cs) k; run = steps }; is = is }) free;
+  replayed = λ version constants arities cs a e h xs r run free.
+      let (k, S) = admit-makes-states version constants arities cs a e h in
+      let (s, steps, is) = code-runs-are-runs (fresh version constants arities cs) r xs (S .reached) (subst (λ (q : State). CodeRun q xs r) (S .is) run) in
+      code-replays r (s, record { reached = record { first = fresh version constants arities cs; steps = map stepOf xs; start = admitted-starts (fresh version constants arities cs) k; run = steps }; is = is }) free;
   file-replayed = λ s F n w e f t calm.
       let (sayable, whole-file) = subst (Outcome s) f (every-file s) in
       let (ys, run) = tried-run t in

@@ -19,8 +19,7 @@ use Rattle.calculus.specs.Runs.{Reached, plain}
 use Rattle.calculus.specs.States.{State, Step}
 use Rattle.calculus.proofs.Answers.{judged-by}
 use Rattle.calculus.proofs.Runs.{admitted-reached, steps-keep-reached}
-use Rattle.rules.proofs.Handing.{every-step-hands}
-use Rattle.rules.proofs.Told.{decided}
+use Rattle.reaching.proofs.Handing.{decided, every-step-hands}
 use Rattle.listing.specs.Lines.{isEmpty, isRefutation}
 use Rattle.asking.specs.Steps.{stepOf}
 use Rattle.state.proofs.Runs.{answers-so}

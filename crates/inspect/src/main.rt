@@ -1,14 +1,14 @@
 // The program for reviewers: reads a run file from standard input and prints its listing, and then the final state. The word `numbers` asks for
 // the numbers that accepted steps hand on.
-ghost use Rattle.judging.specs.Running.{WrittenWithin};
+ghost use Rattle.judging.specs.Judging.{WrittenWithin};
 use judging::MOST_INSPECTION;
 use judging::MOST_WITH_NUMBERS;
 use judging::Written;
 use streams::Read;
 use words::Program;
 
-// "A valid file is below 65,536 bytes; the program reads no more."
-const MOST_READ: usize = 65535;
+// "Of any file the program reads one byte more and no further": than the 65,536 that a valid file may have.
+const MOST_READ: usize = 65537;
 
 // What was written, printed
 fn print_text(written: Written, text: &[u8])

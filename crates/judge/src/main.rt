@@ -4,8 +4,8 @@ use judging::Written;
 use streams::Read;
 use words::Program;
 
-// "A valid file is below 65,536 bytes; the program reads no more."
-const MOST_READ: usize = 65535;
+// "Of any file the program reads one byte more and no further": than the 65,536 that a valid file may have.
+const MOST_READ: usize = 65537;
 
 // The listing of a file, printed; the buffer is long enough for every listing.
 fn print_listing(file: &[u8]) {

@@ -15,7 +15,7 @@ use Rattle.basis.specs.Atoms.{InRange, Proper}
 use Rattle.calculus.specs.Clauses.{Clause}
 use Rattle.calculus.specs.Class.{InClass, Limited, Occurs, ProperLiteral, arityOf, in-literal}
 use Rattle.runfile.specs.Readers.{got}
-use Rattle.runfile.specs.File.{File, file}
+use Rattle.runfile.specs.File.{File, file, mostFile}
 use Rattle.runfile.specs.Written.{headerWith, joined, written, writtenClause}
 use Rattle.runfile.specs.Claims.{Sayable}
 use Rattle.runfile.proofs.Back.{read-back}
@@ -36,10 +36,10 @@ one-known : (l : List ℕ) → arityOf l 1 ≡ 2 → 1 ≤ length l
 one-known [] e = absurd (omega arith)
 one-known (n ∷ l) e = omega arith
 
-lower-proper : (v : ℕ) {k : ℤ} → 1 ≤ v → v ≤ 2 → InRange k → Proper 2 (atLeast v k)
+lower-proper : (v : ℕ) {k : ℤ} → 1 ≤ v → v ≤ 2 → InRange k → Proper InRange 2 (atLeast v k)
 lower-proper v h g r = record { p-place = omega arith; q-place = g; some-place = omega arith; c-range = negated-range r }
 
-upper-proper : (v : ℕ) {k : ℤ} → 1 ≤ v → v ≤ 2 → InRange k → Proper 2 (atMost v k)
+upper-proper : (v : ℕ) {k : ℤ} → 1 ≤ v → v ≤ 2 → InRange k → Proper InRange 2 (atMost v k)
 upper-proper v h g r = record { p-place = g; q-place = omega arith; some-place = omega arith; c-range = r }
 
 -- One place of each atom is 0: there are no differences.
@@ -66,13 +66,13 @@ module _ (arities : List ℕ) (two : arityOf arities 1 ≡ 2) where
 
   row-in-class : (r : Row) (n : Option ℤ) → Ranged r → EndRanged n → InClass arities (rowClause r n)
   row-in-class r n h e = record {
-    atoms-proper = each-atom (Proper 2) r n (lower-proper 1 (omega arith) (omega arith) (h .key-range)) (upper n e) (lower-proper 2 (omega arith) (omega arith) (h .result-range)) (upper-proper 2 (omega arith) (omega arith) (h .result-range));
+    atoms-proper = each-atom (Proper InRange 2) r n (lower-proper 1 (omega arith) (omega arith) (h .key-range)) (upper n e) (lower-proper 2 (omega arith) (omega arith) (h .result-range)) (upper-proper 2 (omega arith) (omega arith) (h .result-range));
     literals-proper = only;
     each-occurs = occurs;
     differences-bounded = λ a m p q. absurd (each-atom OnePlace r n (λ b c. b refl) (single n) (λ b c. b refl) (λ b c. c refl) a m p q);
   }
     where
-      upper : (n : Option ℤ) → EndRanged n → AtEnd (Proper 2) n
+      upper : (n : Option ℤ) → EndRanged n → AtEnd (Proper InRange 2) n
       upper none e = tt
       upper (some n) e = upper-proper 1 (omega arith) (omega arith) e
 
@@ -150,16 +150,16 @@ module _ {keys results : List ℤ} (A : TableAccepted keys results) (m : Match) 
 
 pub table-read-back : TableReadBack
 table-read-back keys results A m F h two before after parted room =
-    subst (λ (s : List ℕ). file s ≡ got (G A m F h two before after parted room) (length s)) (written-is A m F h two before after parted room) (read-back (G A m F h two before after parted room) (sayable-with A m F h two before after parted room))
+    subst (λ (s : List ℕ). length s ≤ mostFile → file s ≡ got (G A m F h two before after parted room) (length s)) (written-is A m F h two before after parted room) (read-back (G A m F h two before after parted room) (sayable-with A m F h two before after parted room))
 
 -- ---- from the buffer to the meaning
 
 pub written-exactly : WrittenExactly
-written-exactly keys results m d d′ n (e, c, l) F h two before after parted room =
+written-exactly keys results m d d′ n (e, c, l) F h two before after parted room short =
     let A : TableAccepted keys results = record { few-rows = e .0; in-order = e .1 .0 } in
     let w = bytesFor keys results m in
     let taken : take n d′ ≡ w = ap (take n) l ∙ ap (λ (k : ℕ). take k (w ++ drop n d)) c ∙ take-append-seam w (drop n d) in (
       tableClauses m (rowsOf keys results),
-      rw taken (table-read-back keys results A m F h two before after parted room),
+      rw taken (table-read-back keys results A m F h two before after parted room (rw taken at short)),
       gets-exactly keys results A m (F .arities) two,
     )

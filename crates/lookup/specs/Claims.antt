@@ -12,7 +12,7 @@ use Rattle.calculus.specs.Clauses.{Clause}
 use Rattle.calculus.specs.Class.{InClass, Limited, arityOf}
 use Rattle.calculus.specs.Truth.{Reading, True}
 use Rattle.runfile.specs.Readers.{got}
-use Rattle.runfile.specs.File.{File, file}
+use Rattle.runfile.specs.File.{File, file, mostFile}
 use Rattle.runfile.specs.Written.{joined, writtenClause, writtenWith}
 use Rattle.runfile.specs.Claims.{Sayable}
 use Rattle.lookup.specs.declared.Match.{Match}
@@ -79,16 +79,17 @@ writtenAmong F before n w after = writtenWith F (length (F .input) + n) (joined 
 
 -- The file F, but with other input clauses
 abbrev pub withInput : File → List Clause → File
-withInput F cs = record { constants = F .constants; arities = F .arities; input = cs; steps = F .steps }
+withInput F cs = record { version = F .version; constants = F .constants; arities = F .arities; input = cs; steps = F .steps }
 
 -- In any file that can be said and in which predicate 1 has two arguments, the table's bytes between those of its input clauses, or alone where it
--- has none, are read as exactly the table's clauses, and all else as it was, if there are at most 48 input clauses in all.
+-- has none, are read as exactly the table's clauses, and all else as it was, if there are at most 48 input clauses in all and the file is not too
+-- long: with the table's bytes it has at most 65,536.
 abbrev pub TableReadBack : Type 0
 TableReadBack =
     (keys results : List ℤ) → TableAccepted keys results → (m : Match) (F : File) → Sayable F → arityOf (F .arities) 1 ≡ 2
     → (before after : List Clause) → F .input ≡ before ++ after → length (F .input) + length keys ≤ mostInput
     → let s = writtenAmong F before (length keys) (bytesFor keys results m) after in
-    file s ≡ got (withInput F (before ++ tableClauses m (rowsOf keys results) ++ after)) (length s)
+    length s ≤ mostFile → file s ≡ got (withInput F (before ++ tableClauses m (rowsOf keys results) ++ after)) (length s)
 
 -- A clause: three counts, at most four atoms of six bytes, and a literal of four
 abbrev pub mostTableBytes : ℕ
@@ -107,4 +108,4 @@ WrittenExactly =
     (keys results : List ℤ) (m : Match) (d d′ : List ℕ) (n : ℕ) → Makes keys results m d d′ (Bytes n) → (F : File) → Sayable F → arityOf (F .arities) 1 ≡ 2
     → (before after : List Clause) → F .input ≡ before ++ after → length (F .input) + length keys ≤ mostInput
     → let s = writtenAmong F before (length keys) (take n d′) after in
-    (cs : List Clause) × (file s ≡ got (withInput F (before ++ cs ++ after)) (length s)) × ((x y : ℤ) → GetsFollows (F .arities) cs x y ↔ Returns m (rowsOf keys results) x y)
+    length s ≤ mostFile → (cs : List Clause) × (file s ≡ got (withInput F (before ++ cs ++ after)) (length s)) × ((x y : ℤ) → GetsFollows (F .arities) cs x y ↔ Returns m (rowsOf keys results) x y)

@@ -19,6 +19,7 @@ ghost use Rattle.lookup.specs.Claims.{TableAccepted};
 use basis::Atom;
 use basis::BUFFER_SHORT;
 use basis::Literal;
+use basis::MOST_C;
 use basis::MOST_PREDICATES;
 use basis::MOST_ROWS;
 use basis::NOT_IN_ORDER;
@@ -26,7 +27,6 @@ use basis::TOO_MANY_ROWS;
 use clausebytes::put_clause;
 use clauses::Clause;
 use clauses::no_clause;
-use constraint::in_range;
 use slices::word_at;
 
 // An atom: p, q and the four bytes of c
@@ -48,6 +48,19 @@ pub enum Tabled {
 }
 
 // ---- which tables are in order
+
+// Whether c is from -1,000,000 to 1,000,000.
+fn in_range(c: i32) -> bool
+    ensures { λ r. ⌜ Decides (InRange c) r ⌝ }
+{
+    if c < -MOST_C {
+        return false;
+    }
+    if MOST_C < c {
+        return false;
+    }
+    true
+}
 
 // Whether the key of row j is above the one before it, if there is one
 fn rises(keys: &[i32], j: usize) -> bool

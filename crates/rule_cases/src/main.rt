@@ -3,20 +3,24 @@
 // each its name and what came of it; what a file says is among the packed files of `file_cases`.
 // Standard input has the cases of `checker/cases/records.txt`, as the checker packs them: each has the same width, and in it everything has
 // its place, given below. A clause is its three counts, so many atoms and so many literals, and an instance; an atom is p, q, a sign (1 is
-// minus) and c in three bytes; a literal is a sign (1 is plus), a predicate and three arguments; a step is its seven numbers and an instance.
+// minus) and c in three bytes; a literal is a sign (1 is plus), a predicate and three arguments; a step is its seven numbers, an instance, how many
+// atoms it brings, and two of them, each a clause, an atom number, a sign and the count and constants of an instance.
 ghost use mathlib.Core.Path.{_≡_};
 ghost use Prim.Native.Nat.{_<_};
 ghost use lib.ListN.{length};
 ghost use Rattle.inspection.specs.Writing.{mostState};
 ghost use Rattle.state.specs.States.{Made};
+use asking::Source;
 use asking::Step;
 use basis::Atom;
 use basis::Literal;
 use basis::MOST_ATOMS;
+use basis::MOST_BROUGHT;
 use basis::MOST_INPUT;
 use basis::MOST_LITERALS;
 use basis::MOST_PREDICATES;
 use basis::MOST_VARIABLES;
+use basis::Version;
 use clauses::Clause;
 use clauses::Instanced;
 use clauses::no_atom;
@@ -49,14 +53,17 @@ const STEP_COUNT: usize = 32;
 
 const ARITIES: usize = 33;
 
-const FIRST: usize = 41;
+// 2 is version 2, any other number version 1
+const VERSION: usize = 41;
 
-const SECOND: usize = 122;
+const FIRST: usize = 42;
 
-const STEPS: usize = 203;
+const SECOND: usize = 123;
+
+const STEPS: usize = 204;
 
 // Ten steps at most
-const CASE: usize = 393;
+const CASE: usize = 724;
 
 // ---- places in a clause, and how many atoms and literals stand there
 
@@ -68,13 +75,22 @@ const INSTANCE: usize = 69;
 
 const SLOTS: usize = 6;
 
+// ---- places in a step
+
+const BROUGHT: usize = 19;
+
+// The first atom that it brings; the second stands in every other slot
+const SOURCE: usize = 20;
+
+const OTHER_SOURCE: usize = 36;
+
 // ---- widths
 
 const ATOM: usize = 6;
 
 const ONE_LITERAL: usize = 5;
 
-const STEP: usize = 19;
+const STEP: usize = 52;
 
 // ---- records
 
@@ -172,11 +188,27 @@ fn instanced_at(s: &[u8], at: usize) -> Instanced
     }
 }
 
+fn source_at(s: &[u8], at: usize) -> Source
+    requires { ⌜ at < 100000 ⌝ }
+{
+    Source {
+        clause: byte(s, at, 0),
+        number: byte(s, at, 1),
+        sign: byte(s, at, 2),
+        count: byte(s, at, 3),
+        instance: instance_at(s, at + 4),
+    }
+}
+
 // Step number k, from 0 on
 fn step_at(s: &[u8], k: usize) -> Step
     requires { ⌜ k < 256 ⌝ }
 {
     let at = STEPS + STEP * k;
+    let one = source_at(s, at + SOURCE);
+    let other = source_at(s, at + OTHER_SOURCE);
+    let mut atoms = [other; MOST_BROUGHT];
+    atoms[0] = one;
     Step {
         rule: byte(s, at, 0),
         clause: byte(s, at, 1),
@@ -185,7 +217,9 @@ fn step_at(s: &[u8], k: usize) -> Step
         sign: byte(s, at, 4),
         amount: byte(s, at, 5),
         count: byte(s, at, 6),
+        brought: byte(s, at, BROUGHT),
         instance: instance_at(s, at + 7),
+        atoms: atoms,
     }
 }
 
@@ -281,6 +315,13 @@ fn factorize(s: &[u8]) {
 
 // ---- the front door
 
+fn version_of(n: u8) -> Version {
+    if n == 2 {
+        return Version::Two;
+    }
+    Version::One
+}
+
 // What admission makes of the clauses
 fn admitted(s: &[u8]) -> State
     ensures { λ r. ⌜ Made r ⌝ }
@@ -290,7 +331,8 @@ fn admitted(s: &[u8]) -> State
     let count = byte(s, COUNTS, 2);
     let list = arities_of(s);
     let table = table_of(s);
-    let opened = admit(constants, predicates, list, count, table);
+    let version = version_of(byte(s, VERSION, 0));
+    let opened = admit(version, constants, predicates, list, count, table);
     print_answer(opened.number, opened.place);
     opened.state
 }

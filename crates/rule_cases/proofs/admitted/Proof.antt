@@ -5,9 +5,19 @@ use Rattle.rule_cases.proofs.admitted.Statement.{statement}
 use Rattle.rule_cases.proofs.admitted.Tie as tie
 
 returns : tie.Need-returns
-returns c = admit-keeps _ _ _ (c .before .before .admit .result) (c .before .before .admit .ensures)
+returns c = admit-keeps _ _ _ _ (c .before .before .admit .result) (c .before .before .admit .ensures)
 
 pub admitted-spec : {M : Type 1} → statement M
 admitted-spec =
     tie.close
-    (tie.spec (λ c κs. search needs) (λ c κs. search needs) (λ c κs. search needs) (λ c κs. search needs) (λ c κs. search needs) (λ c κs. search needs) (λ c κs. search needs) returns)
+    (tie.spec
+    (λ c κs. search needs)
+    (λ c κs. search needs)
+    (λ c κs. search needs)
+    (λ c κs. search needs)
+    (λ c κs. search needs)
+    (λ c κs. search needs)
+    (λ c κs. search needs)
+    (λ c κs. search needs)
+    (λ c κs. search needs)
+    returns)
