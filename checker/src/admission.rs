@@ -9,7 +9,7 @@ use crate::constraint::Numbers;
 use crate::limits;
 use crate::refusal::{demand, Refusal};
 use crate::state::State;
-use crate::step::Step;
+use crate::step::{brings_atoms, Source, Step};
 
 /// A literal as offered. Argument slots past the arity are not looked at.
 #[derive(Clone, Copy, Debug)]
@@ -29,8 +29,18 @@ pub struct ClauseRecord {
     pub literals: [LiteralRecord; limits::LITERALS],
 }
 
-/// A step as offered: a rule number and every argument a rule may have. Those of other rules, and
-/// constants past the instance's count, are not looked at.
+/// An atom that a decision is to bring, as offered. Constants past the instance's count are not looked at.
+#[derive(Clone, Copy, Debug, Default)]
+pub struct SourceRecord {
+    pub clause: u8,
+    pub number: u8,
+    pub sign: u8,
+    pub instance_count: u8,
+    pub instance: [u8; limits::INSTANCE],
+}
+
+/// A step as offered: a rule number and every argument a rule may have. Those of other rules, constants past the
+/// instance's count and atoms past theirs are not looked at. In a state of version 1 no atoms are, nor how many.
 #[derive(Clone, Debug, Default)]
 pub struct StepRecord {
     pub rule: u8,
@@ -44,10 +54,14 @@ pub struct StepRecord {
     pub instance: [u8; limits::INSTANCE],
     /// Grow's count.
     pub count: u8,
+    /// The atoms that Decide is to bring.
+    pub atom_count: u8,
+    pub atoms: [SourceRecord; limits::BROUGHT],
 }
 
-/// Admits clause records: the first state over them, or the refusal.
+/// Admits clause records: the first state over them, for steps of that version, or the refusal.
 pub fn admit(
+    version: u16,
     constants: u8,
     predicates: u8,
     arities: &[u8; limits::PREDICATES],
@@ -65,7 +79,7 @@ pub fn admit(
             admit_clause(record, arities).map_err(|number| Refusal::new(number, index + 1))?;
         input.push(clause);
     }
-    Ok(State::first(constants.into(), arities.to_vec(), input))
+    Ok(State::first(version, constants.into(), arities.to_vec(), input))
 }
 
 /// One clause record, judged in the order of the file's fields: the clause or the refusal's number.
@@ -111,21 +125,16 @@ fn admit_literal(record: &LiteralRecord, variables: u8, arities: &[u8]) -> Optio
 }
 
 impl StepRecord {
-    /// The step offered: 7 for an unknown rule, else 3 for an instance count, then 4 for Decide's
-    /// sign.
-    pub fn step(&self) -> Result<Step, Refusal> {
+    /// The step offered to a state of that version: 7 for an unknown rule, else 3 for a count, then 4 for a sign of
+    /// Decide.
+    pub fn step(&self, version: u16) -> Result<Step, Refusal> {
         let step = match self.rule {
             1 => Step::Propagate {
                 clause: self.clause,
                 literal: self.literal,
                 instance: self.instance()?,
             },
-            2 => {
-                let instance = self.instance()?;
-                demand(self.sign <= 1, Refusal::at_zero(4))?;
-                let positive = self.sign == 1;
-                Step::Decide { clause: self.clause, literal: self.literal, positive, instance }
-            }
+            2 => self.decide(version)?,
             3 => Step::Conflict { clause: self.clause, instance: self.instance()? },
             4 => Step::Resolve { literal: self.literal },
             5 => Step::Factorize { first: self.literal, second: self.second },
@@ -138,14 +147,43 @@ impl StepRecord {
     }
 
     fn instance(&self) -> Result<Vec<u8>, Refusal> {
-        let constants = self.instance.get(..self.instance_count as usize);
-        Ok(constants.ok_or(Refusal::at_zero(3))?.to_vec())
+        first_of(&self.instance, self.instance_count)
     }
+
+    /// "4 for its sign above 1, 3 for the counts", of the literal and of any atom.
+    fn decide(&self, version: u16) -> Result<Step, Refusal> {
+        let (clause, literal, positive) = (self.clause, self.literal, self.sign == 1);
+        let instance = self.instance()?;
+        let records = match brings_atoms(version) {
+            true => first_of(&self.atoms, self.atom_count)?,
+            false => Vec::new(),
+        };
+        let atoms: Result<Vec<Source>, Refusal> =
+            records.iter().map(SourceRecord::source).collect();
+        let atoms = atoms?;
+        let signs_fit = self.sign <= 1 && records.iter().all(|record| record.sign <= 1);
+        demand(signs_fit, Refusal::at_zero(4))?;
+        Ok(Step::Decide { clause, literal, positive, instance, atoms })
+    }
+}
+
+impl SourceRecord {
+    /// The atom named, its sign not yet judged.
+    fn source(&self) -> Result<Source, Refusal> {
+        let instance = first_of(&self.instance, self.instance_count)?;
+        let (clause, number, stands) = (self.clause, self.number, self.sign == 1);
+        Ok(Source { clause, number, stands, instance })
+    }
+}
+
+/// As many of the slots as the count says, 3 if there are not so many.
+fn first_of<T: Clone>(slots: &[T], count: u8) -> Result<Vec<T>, Refusal> {
+    Ok(slots.get(..count as usize).ok_or(Refusal::at_zero(3))?.to_vec())
 }
 
 impl State {
     /// Takes a step offered without a file, as [`State::take`] does.
     pub fn offer(&mut self, record: &StepRecord) -> Result<Option<Numbers>, Refusal> {
-        self.take(&record.step()?)
+        self.take(&record.step(self.version)?)
     }
 }

@@ -2,12 +2,15 @@
 //! run files, packed for `crates/file_cases`, as are the damages of `cases/damages.txt`. Those of `cases/records.txt` are merging, admission and steps
 //! offered without a file: they are packed for `crates/rule_cases`.
 //!
-//! A case is a name, a number that says what is done, and what it is done to. 0 and 9 are a run: the
-//! numbers of constants, predicates and clauses, the arities, the clauses, each as often as the number
-//! before it says, and the steps, each list ended by a bar. 1 is the reason of a clause, 4 the resolvent of
+//! A case is a name, a number that says what is done, and what it is done to. 0 and 9 are a run of version 1, 20 and
+//! 29 one of version 2: the numbers of constants, predicates and clauses, the arities, the clauses, each as often as the
+//! number before it says, and the steps, each list ended by a bar. 1 is the reason of a clause, 4 the resolvent of
 //! two, 5 a clause factored, with the literals that are named, numbered from 0. A clause is its three
 //! counts, its atoms, its literals and an instance, which in a run is not looked at, ended by bars too; a
-//! step is a rule, a clause, two literals, a sign, Grow's count, the instance's count and the instance. A
+//! step is a rule, a clause, two literals, a sign, Grow's count, the instance's count and the instance. In version 2
+//! a decision goes on with the number of its atoms, a bar, and the atoms: each is a clause, its number, a sign, the
+//! instance's count and the instance; a further bar ends them. Of two or more the last stands in all slots past it too.
+//! Any other step may go on so behind one more bar, without a file: its atoms are offered and not looked at. A
 //! line that begins with a blank goes on with the case before it; one that begins with # is passed over.
 //! Whatever is no digit, minus sign or bar only parts numbers.
 
@@ -15,7 +18,7 @@ mod records;
 
 pub use records::packed_records;
 
-use crate::admission::{admit, ClauseRecord, LiteralRecord, StepRecord};
+use crate::admission::{admit, ClauseRecord, LiteralRecord, SourceRecord, StepRecord};
 use crate::clause::{Atom, Clause, Closure, Literal};
 use crate::file::{write, RunFile};
 use crate::limits;
@@ -23,6 +26,7 @@ use crate::listing::{self, conflict_text, final_state, inspection};
 use crate::refusal::Refusal;
 use crate::rules::{factor, resolvent};
 use crate::state::{Origin, State};
+use crate::step::brings_atoms;
 use std::collections::VecDeque;
 
 /// The file that is damaged.
@@ -50,13 +54,32 @@ fn answer(case: &str) -> String {
     let (name, rest) = case.split_once(' ').unwrap_or((case, ""));
     let mut words = Words::of(rest);
     let text = match words.byte() {
-        0 => run(&mut words, true),
         1 => reason(&mut words),
         4 => resolved(&mut words),
         5 => factored(&mut words),
-        _ => run(&mut words, false),
+        kind => run(&mut words, RunKind::of(kind)),
     };
     format!("{name} {text}")
+}
+
+/// What is done with a run.
+struct RunKind {
+    version: u16,
+    /// Whether each step is shown, or the end alone.
+    each: bool,
+}
+
+impl RunKind {
+    fn of(kind: u8) -> RunKind {
+        let (version, each) = match kind {
+            0 => (1, true),
+            9 => (1, false),
+            20 => (2, true),
+            29 => (2, false),
+            _ => panic!("{kind} says nothing that is done"),
+        };
+        RunKind { version, each }
+    }
 }
 
 /// A run file with a name.
@@ -73,13 +96,13 @@ pub fn run_files(text: &[u8]) -> Vec<NamedFile> {
 fn files_of(case: &str) -> Vec<NamedFile> {
     let (name, rest) = case.split_once(' ').unwrap_or((case, ""));
     let mut words = Words::of(rest);
-    let each = words.byte() == 0;
+    let RunKind { version, each } = RunKind::of(words.byte());
     let table = words.table();
-    let mut file = table.file();
+    let mut file = table.file(version);
     let mut files = Vec::new();
-    let mut state = table.admitted();
+    let mut state = table.admitted(version);
     while !words.at_end() {
-        let step = words.step().step().expect("a step that a file can say");
+        let step = words.step(version).step(version).expect("a step that a file can say");
         file.steps.push(step.clone());
         let name = format!("{name}/{}", files.len() + 1);
         files.push(NamedFile { name, bytes: write(&file).bytes });
@@ -119,9 +142,10 @@ fn damaged(line: &str) -> Vec<u8> {
 pub fn packed(files: &[NamedFile]) -> Vec<u8> {
     let mut bytes = Vec::new();
     for file in files {
+        let length = u16::try_from(file.bytes.len()).expect("a length that two bytes can say");
         bytes.push(file.name.len() as u8);
         bytes.extend(file.name.as_bytes());
-        bytes.extend((file.bytes.len() as u16).to_le_bytes());
+        bytes.extend(length.to_le_bytes());
         bytes.extend(&file.bytes);
     }
     bytes
@@ -146,13 +170,13 @@ pub fn inspections(files: &[NamedFile]) -> String {
 
 /// Admission's answer, and after every step a line with its answer; the state after each step, or else at
 /// the end.
-fn run(words: &mut Words, each: bool) -> String {
-    let opened = words.table().admitted();
+fn run(words: &mut Words, RunKind { version, each }: RunKind) -> String {
+    let opened = words.table().admitted(version);
     let mut text = format!("{}\n", numbers(&opened));
     // A refused file yields no state: the steps then meet that of no clauses.
-    let mut state = opened.unwrap_or(State::first(0, Vec::new(), Vec::new()));
+    let mut state = opened.unwrap_or(State::first(version, 0, Vec::new(), Vec::new()));
     while !words.at_end() {
-        let answer = state.offer(&words.step());
+        let answer = state.offer(&words.step(version));
         text += &format!("step {}\n", numbers(&answer));
         if each {
             text += &final_state(&state);
@@ -170,8 +194,8 @@ fn reason(words: &mut Words) -> String {
     let literal = words.literal_number();
     let (reason, own) = match given {
         Some(Closure { clause, instance }) => {
-            let origin = Origin { decision: false, clause: 1, literal, instance };
-            State::first(0, Vec::new(), vec![clause]).reason(&origin)
+            let origin = Origin { decision: false, clause: 1, literal, instance, brought: 0 };
+            State::first(1, 0, Vec::new(), vec![clause]).reason(&origin)
         }
         None => (Closure::blank(), 1),
     };
@@ -271,8 +295,12 @@ impl Words {
         matches!(self.0.front(), Some(Word::Number { .. }))
     }
 
+    fn at_bar(&self) -> bool {
+        self.0.front() == Some(&Word::Bar)
+    }
+
     fn past_bar(&mut self) {
-        if self.0.front() == Some(&Word::Bar) {
+        if self.at_bar() {
             self.0.pop_front();
         }
     }
@@ -343,11 +371,45 @@ impl Words {
         Table { constants, predicates, arities, clauses }
     }
 
-    fn step(&mut self) -> StepRecord {
+    fn step(&mut self, version: u16) -> StepRecord {
         let (rule, clause, literal, second) = (self.byte(), self.byte(), self.byte(), self.byte());
         let (sign, count, instance_count) = (self.byte(), self.byte(), self.byte());
         let instance = filled(&self.bytes(), 0);
-        StepRecord { rule, clause, literal, second, sign, instance_count, instance, count }
+        let brings = rule == 2 && brings_atoms(version);
+        let (atom_count, atoms) =
+            if brings || self.at_bar() { self.sources() } else { (0, Vec::new()) };
+        let past = match &atoms[..] {
+            [_, .., last] => *last,
+            _ => SourceRecord::default(),
+        };
+        let atoms = filled(&atoms, past);
+        StepRecord {
+            rule,
+            clause,
+            literal,
+            second,
+            sign,
+            instance_count,
+            instance,
+            count,
+            atom_count,
+            atoms,
+        }
+    }
+
+    /// How many atoms a decision is to bring, and these.
+    fn sources(&mut self) -> (u8, Vec<SourceRecord>) {
+        self.past_bar();
+        let count = self.byte();
+        self.past_bar();
+        (count, self.list(Words::source))
+    }
+
+    fn source(&mut self) -> SourceRecord {
+        let (clause, number, sign) = (self.byte(), self.byte(), self.byte());
+        let instance_count = self.byte();
+        let instance = filled(&self.bytes(), 0);
+        SourceRecord { clause, number, sign, instance_count, instance }
     }
 }
 
@@ -373,17 +435,17 @@ struct Table {
 }
 
 impl Table {
-    fn admitted(&self) -> Result<State, Refusal> {
-        admit(self.constants, self.predicates, &self.arities, &self.clauses)
+    fn admitted(&self, version: u16) -> Result<State, Refusal> {
+        admit(version, self.constants, self.predicates, &self.arities, &self.clauses)
     }
 
     /// The file that says the same, with no steps yet.
-    fn file(&self) -> RunFile {
+    fn file(&self, version: u16) -> RunFile {
         let mut arities = self.arities.to_vec();
         arities.resize(self.predicates.into(), 0);
         let clause = |record: &ClauseRecord| record.clause().expect("a clause that a file can say");
         let clauses = self.clauses.iter().map(clause).collect();
-        RunFile { constants: self.constants, arities, clauses, steps: Vec::new() }
+        RunFile { version, constants: self.constants, arities, clauses, steps: Vec::new() }
     }
 }
 

@@ -56,6 +56,11 @@ impl Atom {
         self.map(|variable| constant_for(instance, variable))
     }
 
+    /// "The denial of p − q ≤ c is q − p ≤ −c − 1" (the request "Decisions that bring bounds").
+    pub fn denial(self) -> Atom {
+        Atom { p: self.q, q: self.p, c: -self.c - 1 }
+    }
+
     /// A bound (x, 0, c), for a variable x.
     pub fn bounds_above(&self, variable: u8) -> bool {
         self.p == variable && self.q == 0

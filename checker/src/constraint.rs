@@ -16,7 +16,8 @@ pub type Numbers = Vec<i32>;
 /// above the constants, both places 0 or c out of range by 4, the place being the atom's number."
 ///
 /// "The constraint test shall give, with its yes, numbers for the constants" (change request 2): a yes is these
-/// numbers, a no is none.
+/// numbers, a no is none. c is out of range below −1,000,001 and above 1,000,000: "so trail constants, and the test's,
+/// reach −1,000,001" (the request "Decisions that bring bounds").
 pub fn test(constants: usize, atoms: &[Atom]) -> Result<Option<Numbers>, Refusal> {
     let counts_fit = constants <= limits::CONSTANTS && atoms.len() <= limits::TEST_ATOMS;
     demand(counts_fit, Refusal::new(3, 0))?;
@@ -30,7 +31,7 @@ fn is_sound(constants: usize, atom: &Atom) -> bool {
     atom.p as usize <= constants
         && atom.q as usize <= constants
         && (atom.p != 0 || atom.q != 0)
-        && (-limits::C..=limits::C).contains(&atom.c)
+        && (limits::LEAST_GROUND_C..=limits::C).contains(&atom.c)
 }
 
 /// Whether a set is possible.

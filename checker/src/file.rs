@@ -5,28 +5,43 @@
 //! bytes), the literals (sign 0 negative or 1 positive, predicate, arguments). Then the number of
 //! steps (16 bits, at most 2,000) and each step: rule number and its arguments in the order above, an
 //! instance as a count (at most 12) and constants. Other numbers are one byte."
+//!
+//! "File version 2: a Decide step ends with a count (at most 24) of atoms, each as clause, atom number, sign (1 as it
+//! stands, 0 denied), instance." (the request "Decisions that bring bounds")
 
 use crate::clause::{Atom, Clause, Literal};
 use crate::limits;
 use crate::refusal::Refusal;
-use crate::step::Step;
+use crate::state::State;
+use crate::step::{brings_atoms, Source, Step};
 
 pub const MARK: [u8; 3] = *b"DRF";
-pub const VERSION: u16 = 1;
+pub const VERSIONS: [u16; 2] = [1, 2];
 
-/// What a run file holds.
+/// What a run file holds. In version 1 the atoms of decisions are no part of it.
 #[derive(Clone, Debug, PartialEq, Eq)]
 pub struct RunFile {
+    pub version: u16,
     pub constants: u8,
     pub arities: Vec<u8>,
     pub clauses: Vec<Clause>,
     pub steps: Vec<Step>,
 }
 
-/// The kinds of field, in the order in which they first come. `Clause` stands for a whole clause
-/// and `Surplus` for the bytes after the last step.
+impl RunFile {
+    /// The state that its first step meets.
+    pub fn first_state(&self) -> State {
+        let (arities, clauses) = (self.arities.clone(), self.clauses.clone());
+        State::first(self.version, self.constants.into(), arities, clauses)
+    }
+}
+
+/// The kinds of field, in the order in which they first come. `File` stands for the file as a whole, `Clause` for a
+/// whole clause and `Surplus` for the bytes after the last step. Those from `BroughtCount` to `BroughtConstant` are of
+/// the atoms that a decision brings.
 #[derive(Clone, Copy, Debug, PartialEq, Eq, PartialOrd, Ord, Hash)]
 pub enum Field {
+    File,
     Mark,
     Version,
     Constants,
@@ -50,6 +65,12 @@ pub enum Field {
     StepSign,
     InstanceCount,
     InstanceConstant,
+    BroughtCount,
+    BroughtClause,
+    BroughtNumber,
+    BroughtSign,
+    BroughtInstanceCount,
+    BroughtConstant,
     GrowCount,
     Surplus,
 }
@@ -64,8 +85,17 @@ pub struct BadFile {
 /// Reads a file. "A file is judged field by field, a clause's 5 then 6 at its end; the place is the
 /// byte where the field, clause or surplus begins."
 pub fn read(bytes: &[u8]) -> Result<RunFile, BadFile> {
+    // "22, before all others, a file above 65,536 bytes, place 65,536"
+    if bytes.len() > limits::FILE_BYTES {
+        return Err(bad(22, limits::FILE_BYTES, Field::File));
+    }
+    read_fields(bytes)
+}
+
+/// The same of a file of any length.
+pub fn read_fields(bytes: &[u8]) -> Result<RunFile, BadFile> {
     let mut reader = Reader { bytes, at: 0 };
-    reader.mark_and_version()?;
+    let version = reader.mark_and_version()?;
     let constants = reader.count(Field::Constants, limits::CONSTANTS)?;
     let predicates = reader.count(Field::Predicates, limits::PREDICATES)?;
     let mut arities = Vec::new();
@@ -78,10 +108,10 @@ pub fn read(bytes: &[u8]) -> Result<RunFile, BadFile> {
     }
     let mut steps = Vec::new();
     for _ in 0..reader.number_of_steps()? {
-        steps.push(reader.step()?);
+        steps.push(reader.step(version)?);
     }
     reader.end()?;
-    Ok(RunFile { constants, arities, clauses, steps })
+    Ok(RunFile { version, constants, arities, clauses, steps })
 }
 
 struct Reader<'a> {
@@ -137,16 +167,17 @@ impl Reader<'_> {
         self.byte_within(field, range, 4)
     }
 
-    /// 2: "mark or version wrong"
-    fn mark_and_version(&mut self) -> Result<(), BadFile> {
+    /// 2: "mark or version wrong". The version.
+    fn mark_and_version(&mut self) -> Result<u16, BadFile> {
         if self.field(Field::Mark)? != MARK {
             return Err(bad(2, 0, Field::Mark));
         }
         let place = self.at;
-        if u16::from_le_bytes(self.field(Field::Version)?) != VERSION {
+        let version = u16::from_le_bytes(self.field(Field::Version)?);
+        if !VERSIONS.contains(&version) {
             return Err(bad(2, place, Field::Version));
         }
-        Ok(())
+        Ok(version)
     }
 
     fn clause(&mut self, arities: &[u8]) -> Result<Clause, BadFile> {
@@ -202,7 +233,7 @@ impl Reader<'_> {
         Ok(steps)
     }
 
-    fn step(&mut self) -> Result<Step, BadFile> {
+    fn step(&mut self, version: u16) -> Result<Step, BadFile> {
         let place = self.at;
         let step = match self.byte(Field::Rule)? {
             1 => Step::Propagate {
@@ -215,6 +246,7 @@ impl Reader<'_> {
                 literal: self.byte(Field::StepLiteral)?,
                 positive: self.number(Field::StepSign, 0..=1)? == 1,
                 instance: self.instance()?,
+                atoms: if brings_atoms(version) { self.sources()? } else { Vec::new() },
             },
             3 => {
                 Step::Conflict { clause: self.byte(Field::StepClause)?, instance: self.instance()? }
@@ -234,8 +266,28 @@ impl Reader<'_> {
     }
 
     fn instance(&mut self) -> Result<Vec<u8>, BadFile> {
-        let count = self.count(Field::InstanceCount, limits::INSTANCE)?;
-        (0..count).map(|_| self.byte(Field::InstanceConstant)).collect()
+        self.constants(Field::InstanceCount, Field::InstanceConstant)
+    }
+
+    /// An instance whose count and constants are fields of these kinds.
+    fn constants(&mut self, count: Field, constant: Field) -> Result<Vec<u8>, BadFile> {
+        let count = self.count(count, limits::INSTANCE)?;
+        (0..count).map(|_| self.byte(constant)).collect()
+    }
+
+    /// The atoms that a decision is to bring.
+    fn sources(&mut self) -> Result<Vec<Source>, BadFile> {
+        let count = self.count(Field::BroughtCount, limits::BROUGHT)?;
+        (0..count).map(|_| self.source()).collect()
+    }
+
+    fn source(&mut self) -> Result<Source, BadFile> {
+        Ok(Source {
+            clause: self.byte(Field::BroughtClause)?,
+            number: self.byte(Field::BroughtNumber)?,
+            stands: self.number(Field::BroughtSign, 0..=1)? == 1,
+            instance: self.constants(Field::BroughtInstanceCount, Field::BroughtConstant)?,
+        })
     }
 
     /// 8: "bytes after the last step"
@@ -259,7 +311,7 @@ pub struct Written {
 pub fn write(file: &RunFile) -> Written {
     let mut written = Written::default();
     written.field(Field::Mark, &MARK);
-    written.field(Field::Version, &VERSION.to_le_bytes());
+    written.field(Field::Version, &file.version.to_le_bytes());
     written.byte(Field::Constants, file.constants);
     written.byte(Field::Predicates, file.arities.len() as u8);
     for &arity in &file.arities {
@@ -271,9 +323,16 @@ pub fn write(file: &RunFile) -> Written {
     }
     written.field(Field::Steps, &(file.steps.len() as u16).to_le_bytes());
     for step in &file.steps {
-        written.step(step);
+        written.step(step, file.version);
     }
     written
+}
+
+/// How many bytes a step has in a file of that version.
+pub fn step_length(step: &Step, version: u16) -> usize {
+    let mut written = Written::default();
+    written.step(step, version);
+    written.bytes.len()
 }
 
 /// Clauses as they stand in a file, without their number.
@@ -316,7 +375,7 @@ impl Written {
         }
     }
 
-    fn step(&mut self, step: &Step) {
+    fn step(&mut self, step: &Step, version: u16) {
         self.byte(Field::Rule, step.rule());
         match step {
             Step::Propagate { clause, literal, instance } => {
@@ -324,11 +383,14 @@ impl Written {
                 self.byte(Field::StepLiteral, *literal);
                 self.instance(instance);
             }
-            Step::Decide { clause, literal, positive, instance } => {
+            Step::Decide { clause, literal, positive, instance, atoms } => {
                 self.byte(Field::StepClause, *clause);
                 self.byte(Field::StepLiteral, *literal);
                 self.byte(Field::StepSign, (*positive).into());
                 self.instance(instance);
+                if brings_atoms(version) {
+                    self.sources(atoms);
+                }
             }
             Step::Conflict { clause, instance } => {
                 self.byte(Field::StepClause, *clause);
@@ -347,9 +409,23 @@ impl Written {
     }
 
     fn instance(&mut self, instance: &[u8]) {
-        self.byte(Field::InstanceCount, instance.len() as u8);
-        for &constant in instance {
-            self.byte(Field::InstanceConstant, constant);
+        self.constants(Field::InstanceCount, Field::InstanceConstant, instance);
+    }
+
+    fn constants(&mut self, count: Field, constant: Field, instance: &[u8]) {
+        self.byte(count, instance.len() as u8);
+        for &number in instance {
+            self.byte(constant, number);
+        }
+    }
+
+    fn sources(&mut self, atoms: &[Source]) {
+        self.byte(Field::BroughtCount, atoms.len() as u8);
+        for Source { clause, number, stands, instance } in atoms {
+            self.byte(Field::BroughtClause, *clause);
+            self.byte(Field::BroughtNumber, *number);
+            self.byte(Field::BroughtSign, (*stands).into());
+            self.constants(Field::BroughtInstanceCount, Field::BroughtConstant, instance);
         }
     }
 }

@@ -2,9 +2,10 @@
 //! specification, "What we are building and its rules".
 //!
 //! The checker: [`clause`], [`constraint`], [`merge`], [`state`], [`step`], [`rules`] are the
-//! calculus, [`file`] and [`admission`] its two ways in, [`listing`] what is printed; [`cases`] are offered
-//! by the second way, or to [`merge`] alone. [`table`] makes input clauses from a lookup table, as change
-//! request 1 has it; the numbers behind a yes are as change request 2 has them.
+//! calculus, [`file`] and [`admission`] its two ways in, [`listing`] what is printed, [`replay`] the steps behind a
+//! trail; [`cases`] are offered by the second way, or to [`merge`] alone. [`table`] makes input clauses from a lookup
+//! table, as change request 1 has it; the numbers behind a yes are as change request 2 has them, and the atoms of a
+//! decision as the request "Decisions that bring bounds" has them.
 //!
 //! The tests of others: [`generate`] makes run files and tables, [`coverage`] counts what they come to, [`smt`] puts
 //! questions to a solver.
@@ -21,6 +22,7 @@ pub mod listing;
 pub mod merge;
 pub mod random;
 pub mod refusal;
+pub mod replay;
 pub mod rules;
 pub mod smt;
 pub mod state;

@@ -24,5 +24,12 @@ pub const TEST_ATOMS: usize = 184;
 pub const STEPS: usize = 2_000;
 /// "an instance as a count (at most 12) and constants"
 pub const INSTANCE: usize = 12;
-/// "A valid file is below 65,536 bytes; the program reads no more."
-pub const FILE_BYTES: usize = 65_535;
+/// "a Decide step ends with a count (at most 24) of atoms" (the request "Decisions that bring bounds")
+pub const BROUGHT: usize = 24;
+/// "so trail constants, and the test's, reach −1,000,001" (the request "Decisions that bring bounds")
+pub const LEAST_GROUND_C: i32 = -1_000_001;
+/// "From version 2 on a valid file may have up to 65,536 bytes" (the request "Decisions that bring bounds"). No valid
+/// file of version 1 has as many.
+pub const FILE_BYTES: usize = 65_536;
+/// "of any file the program reads one byte more and no further" (the request "Decisions that bring bounds")
+pub const READ_BYTES: usize = FILE_BYTES + 1;

@@ -5,7 +5,7 @@ use crate::constraint::Numbers;
 use crate::file::{self, BadFile, RunFile};
 use crate::refusal::Refusal;
 use crate::state::{Entry, State};
-use crate::step::Step;
+use crate::step::{Source, Step};
 use std::fmt::Write;
 
 /// A step that was tried.
@@ -36,8 +36,8 @@ pub enum Verdict {
 
 /// Reads a file and tries its steps.
 pub fn run(bytes: &[u8]) -> Result<Run, BadFile> {
-    let RunFile { constants, arities, clauses, steps } = file::read(bytes)?;
-    Ok(try_steps(State::first(constants.into(), arities, clauses), &steps))
+    let RunFile { version, constants, arities, clauses, steps } = file::read(bytes)?;
+    Ok(try_steps(State::first(version, constants.into(), arities, clauses), &steps))
 }
 
 /// Tries steps one after the other. "It stops at a refused step."
@@ -158,7 +158,11 @@ pub fn conflict_text(conflict: Option<&Closure>, arities: &[u8]) -> String {
 
 fn entry_text(entry: &Entry, arities: &[u8]) -> String {
     match entry {
-        Entry::Background(atom) => atom_text(atom),
+        Entry::Background(atom, None) => atom_text(atom),
+        Entry::Background(atom, Some(Source { clause, number, stands, instance })) => {
+            let sign = u8::from(*stands);
+            format!("{} brought {clause} {number} {sign} {}", atom_text(atom), tuple(instance))
+        }
         Entry::Foreground(literal, origin) => format!(
             "{} {} {} {} {}",
             literal_text(literal, arities),

@@ -7,12 +7,15 @@ use crate::limits;
 use crate::merge::{merged, Groups};
 use crate::refusal::{demand, Refusal};
 use crate::state::{Entry, Origin, State};
-use crate::step::Step;
+use crate::step::{brings_atoms, Source, Step};
+
+/// Of each rule the numbers by which it can be answered.
+pub type Answers = [(u8, &'static [u8]); 8];
 
 /// The answers each rule can give, 0 for accepted. 17 can't happen.
-pub const ANSWERS: [(u8, &[u8]); 8] = [
+pub const ANSWERS: Answers = [
     (1, &[0, 9, 10, 11, 12, 13, 18]),
-    (2, &[0, 9, 10, 11, 18]),
+    (2, &[0, 9, 10, 11, 13, 18]),
     (3, &[0, 9, 10, 12, 13]),
     (4, &[0, 9, 10, 14, 15, 18]),
     (5, &[0, 9, 10, 15]),
@@ -21,12 +24,22 @@ pub const ANSWERS: [(u8, &[u8]); 8] = [
     (8, &[0, 9, 10, 18]),
 ];
 
+/// The same in one version: "13 now also for Decide" needs atoms that it brings.
+pub fn answers(version: u16) -> Answers {
+    let mut answers = ANSWERS;
+    if !brings_atoms(version) {
+        answers[1].1 = &[0, 9, 10, 11, 18];
+    }
+    answers
+}
+
 /// The answer to an accepted step.
 #[derive(Clone, Debug, PartialEq, Eq)]
 pub struct Accepted {
     pub change: Change,
-    /// "Accepted Propagate, Conflict and Backtrack hand these on" (change request 2): the numbers of the
-    /// constraint test, for the constants. The other rules have none.
+    /// "Accepted Propagate, Conflict and Backtrack hand these on" (the request "Show the numbers behind a yes"), and so
+    /// does Decide (the request "Decisions that bring bounds"): the numbers of the constraint test, for the constants.
+    /// The other rules have none.
     pub numbers: Option<Numbers>,
 }
 
@@ -35,8 +48,8 @@ pub struct Accepted {
 pub enum Change {
     /// Propagate: the entries are appended.
     Propagated(Vec<Entry>),
-    /// Decide: the entry is appended, k grows by one.
-    Decided(Entry),
+    /// Decide: the entries are appended, k grows by one.
+    Decided(Vec<Entry>),
     /// Conflict, Resolve, Factorize: the conflict now standing.
     Conflict(Closure),
     /// Skip: the last entry goes.
@@ -72,8 +85,10 @@ impl State {
             Step::Propagate { clause, literal, instance } => {
                 self.propagate(*clause, *literal, instance)
             }
-            Step::Decide { clause, literal, positive, instance } => {
-                self.decide(*clause, *literal, *positive, instance)
+            Step::Decide { clause, literal, positive, instance, atoms } => {
+                // "Version 1 decisions bring none."
+                let named = if brings_atoms(self.version) { &atoms[..] } else { &[] };
+                self.decide(*clause, *literal, *positive, instance, named)
             }
             Step::Conflict { clause, instance } => self.conflict(*clause, instance),
             Step::Resolve { literal } => self.resolve(*literal),
@@ -88,8 +103,8 @@ impl State {
     pub fn apply(&mut self, change: Change) {
         match change {
             Change::Propagated(entries) => self.trail.extend(entries),
-            Change::Decided(entry) => {
-                self.trail.push(entry);
+            Change::Decided(entries) => {
+                self.trail.extend(entries);
                 self.level += 1;
             }
             Change::Conflict(conflict) => self.conflict = Some(conflict),
@@ -124,29 +139,41 @@ impl State {
         // "trail atoms and the clause's atoms together are possible"
         let atoms = held.ground_atoms(instance);
         let numbers = self.numbers_with(self.trail.len(), &atoms).ok_or(Refusal::at_zero(13))?;
-        let origin = Origin { decision: false, clause, literal, instance: instance.to_vec() };
+        let instance = instance.to_vec();
+        let origin = Origin { decision: false, clause, literal, instance, brought: 0 };
         let entries = self.propagated(self.trail.len(), own, origin, &atoms);
         demand(self.trail.len() + entries.len() <= limits::TRAIL, Refusal::at_zero(18))?;
         Ok(Accepted::with_numbers(numbers, Change::Propagated(entries)))
     }
 
-    /// "**2 Decide** (clause, literal, sign, instance)."
+    /// "**2 Decide** (clause, literal, sign, instance)", and the atoms named for it to bring.
     fn decide(
         &self,
         clause: u8,
         literal: u8,
         positive: bool,
         instance: &[u8],
+        named: &[Source],
     ) -> Result<Accepted, Refusal> {
         self.demand_no_conflict()?;
         let held = self.demand_clause(clause, instance)?;
         let own = demand_literal(held, literal)?.at(instance);
+        let atoms = self.demand_atoms(named)?;
         // "The atom of the literal, with the sign given, is undefined."
         let decided = Literal { positive, ..own };
         demand(self.is_undefined(&decided), Refusal::at_zero(11))?;
-        demand(self.trail.len() < limits::TRAIL, Refusal::at_zero(18))?;
-        let origin = Origin { decision: true, clause, literal, instance: instance.to_vec() };
-        Ok(Accepted::without_numbers(Change::Decided(Entry::Foreground(decided, origin))))
+        self.demand_undefined(&atoms)?;
+        // "13 now also for Decide"
+        let trail = self.trail.len();
+        let numbers = self.numbers_with(trail, &atoms).ok_or(Refusal::at_zero(13))?;
+        demand(trail + 1 + atoms.len() <= limits::TRAIL, Refusal::at_zero(18))?;
+        let (instance, brought) = (instance.to_vec(), atoms.len());
+        let origin = Origin { decision: true, clause, literal, instance, brought };
+        // "Atoms follow the literal in the order named."
+        let sources = named.iter().cloned().map(Some);
+        let mut entries = vec![Entry::Foreground(decided, origin)];
+        entries.extend(atoms.into_iter().zip(sources).map(|(a, from)| Entry::Background(a, from)));
+        Ok(Accepted::with_numbers(numbers, Change::Decided(entries)))
     }
 
     /// "**3 Conflict** (clause, instance)."
@@ -229,7 +256,7 @@ impl State {
         // from the learned clause; k is i, no conflict."
         let clause = (self.clauses() + 1) as u8;
         let instance = conflict.instance.clone();
-        let origin = Origin { decision: false, clause, literal, instance };
+        let origin = Origin { decision: false, clause, literal, instance, brought: 0 };
         let entries = self.propagated(kept, own, origin, &atoms);
         let room =
             kept + entries.len() <= limits::TRAIL && self.learned.len() < limits::LEARNED_CLAUSES;
@@ -265,6 +292,30 @@ impl State {
         Ok(clause)
     }
 
+    /// The ground atom of a source: "1 as it stands, 0 denied". 10 for its clause, instance or number: "10 also for a
+    /// bad atom number".
+    pub fn demand_atom(&self, source: &Source) -> Result<Atom, Refusal> {
+        let held = self.demand_clause(source.clause, &source.instance)?;
+        let index = (source.number as usize).checked_sub(1).ok_or(Refusal::at_zero(10))?;
+        let atom = held.atoms.get(index).ok_or(Refusal::at_zero(10))?.at(&source.instance);
+        Ok(if source.stands { atom } else { atom.denial() })
+    }
+
+    fn demand_atoms(&self, named: &[Source]) -> Result<Vec<Atom>, Refusal> {
+        named.iter().map(|source| self.demand_atom(source)).collect()
+    }
+
+    /// "11 also when an atom so brought, or its denial, is on the trail or brought before it"
+    fn demand_undefined(&self, atoms: &[Atom]) -> Result<(), Refusal> {
+        for (index, atom) in atoms.iter().enumerate() {
+            let stands = |atom: &Atom| {
+                self.has_atom(self.trail.len(), atom) || atoms[..index].contains(atom)
+            };
+            demand(!stands(atom) && !stands(&atom.denial()), Refusal::at_zero(11))?;
+        }
+        Ok(())
+    }
+
     /// 12: "names the first literal from the left whose instance is not false, of those that must
     /// be". Literals with the instance `own` need not be.
     fn demand_false(
@@ -293,8 +344,8 @@ impl State {
     fn propagated(&self, kept: usize, own: Literal, origin: Origin, atoms: &[Atom]) -> Vec<Entry> {
         let mut entries = vec![Entry::Foreground(own, origin)];
         for atom in atoms {
-            let entry = Entry::Background(*atom);
-            if !self.trail[..kept].contains(&entry) && !entries.contains(&entry) {
+            let entry = Entry::Background(*atom, None);
+            if !self.has_atom(kept, atom) && !entries.contains(&entry) {
                 entries.push(entry);
             }
         }

@@ -2,22 +2,26 @@
 
 use crate::clause::{Atom, Clause, Closure, Literal};
 use crate::merge::{merged, Groups};
+use crate::step::Source;
 
 /// "A foreground entry keeps its step: Propagate's clause, literal and instance (after Backtrack,
-/// those of the learned clause), or Decide's with the sign." The sign is the entry's own.
+/// those of the learned clause), or Decide's with the sign." The sign is the entry's own. The atoms that a decision
+/// brought keep their sources themselves; of them it keeps how many they were.
 #[derive(Clone, Debug, PartialEq, Eq)]
 pub struct Origin {
     pub decision: bool,
     pub clause: u8,
     pub literal: u8,
     pub instance: Vec<u8>,
+    /// How many atoms a decision brought, 0 of a propagated literal.
+    pub brought: usize,
 }
 
-/// An entry of the trail: a ground literal with its step, or a ground atom.
+/// An entry of the trail: a ground literal with its step, or a ground atom, with its source if a decision brought it.
 #[derive(Clone, Debug, PartialEq, Eq)]
 pub enum Entry {
     Foreground(Literal, Origin),
-    Background(Atom),
+    Background(Atom, Option<Source>),
 }
 
 /// "A state is predicates with arities, trail, input clauses, learned clauses, constants, level k,
@@ -26,6 +30,8 @@ pub enum Entry {
 /// Only admission makes a state and only steps change it; the fields are open to be looked at.
 #[derive(Clone, Debug, PartialEq, Eq)]
 pub struct State {
+    /// That of the file: "Version 1 decisions bring none" (the request "Decisions that bring bounds").
+    pub version: u16,
     /// The arity of each predicate.
     pub arities: Vec<u8>,
     pub trail: Vec<Entry>,
@@ -47,7 +53,7 @@ impl Entry {
     pub fn literal(&self) -> Option<&Literal> {
         match self {
             Entry::Foreground(literal, _) => Some(literal),
-            Entry::Background(_) => None,
+            Entry::Background(..) => None,
         }
     }
 
@@ -55,15 +61,24 @@ impl Entry {
     pub fn atom(&self) -> Option<&Atom> {
         match self {
             Entry::Foreground(..) => None,
-            Entry::Background(atom) => Some(atom),
+            Entry::Background(atom, _) => Some(atom),
+        }
+    }
+
+    /// The source of an atom that a decision brought.
+    pub fn source(&self) -> Option<&Source> {
+        match self {
+            Entry::Foreground(..) => None,
+            Entry::Background(_, source) => source.as_ref(),
         }
     }
 }
 
 impl State {
     /// The first state over judged input: empty trail, no learned clauses, level 0, no conflict.
-    pub fn first(constants: usize, arities: Vec<u8>, input: Vec<Clause>) -> State {
+    pub fn first(version: u16, constants: usize, arities: Vec<u8>, input: Vec<Clause>) -> State {
         State {
+            version,
             arities,
             trail: Vec::new(),
             input,
@@ -101,6 +116,11 @@ impl State {
     /// A literal is "false if its complement is" on the trail.
     pub fn is_false(&self, literal: &Literal) -> bool {
         self.on_trail(&literal.complement())
+    }
+
+    /// Whether an atom is among the first `kept` entries, whichever step brought it.
+    pub fn has_atom(&self, kept: usize, atom: &Atom) -> bool {
+        self.trail[..kept].iter().any(|entry| entry.atom() == Some(atom))
     }
 
     /// "The level of a trail literal, shared by its complement, is the number of decisions up to and

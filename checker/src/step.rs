@@ -1,10 +1,27 @@
 //! Proposed steps.
 
-/// A proposed step: a rule with its arguments. The numbers are those proposed, not yet judged.
+/// "File version 2: a Decide step ends with a count (at most 24) of atoms" (the request "Decisions that bring bounds").
+pub fn brings_atoms(version: u16) -> bool {
+    version >= 2
+}
+
+/// An atom as a decision names it: "each as clause, atom number, sign (1 as it stands, 0 denied), instance" (the request
+/// "Decisions that bring bounds").
+#[derive(Clone, Debug, PartialEq, Eq)]
+pub struct Source {
+    pub clause: u8,
+    pub number: u8,
+    /// As it stands, else denied.
+    pub stands: bool,
+    pub instance: Vec<u8>,
+}
+
+/// A proposed step: a rule with its arguments. The numbers are those proposed, not yet judged. The atoms of a decision
+/// are those that it is to bring, in a version in which it may.
 #[derive(Clone, Debug, PartialEq, Eq)]
 pub enum Step {
     Propagate { clause: u8, literal: u8, instance: Vec<u8> },
-    Decide { clause: u8, literal: u8, positive: bool, instance: Vec<u8> },
+    Decide { clause: u8, literal: u8, positive: bool, instance: Vec<u8>, atoms: Vec<Source> },
     Conflict { clause: u8, instance: Vec<u8> },
     Resolve { literal: u8 },
     Factorize { first: u8, second: u8 },

@@ -21,6 +21,8 @@ pub const GETS_ARITY: u8 = 2;
 /// "x is variable 1"
 const X: u8 = 1;
 const Y: u8 = 2;
+/// That of a file of clauses alone, which says the same in every version.
+const VERSION: u16 = 1;
 
 /// Writes the clauses "as file clauses" to the front of the buffer and says how many bytes they take.
 /// The "bytes past the last clause stay; a refusal leaves it as found".
@@ -56,7 +58,7 @@ pub fn returned(keys: &[i32], results: &[i32], kind: Match, x: i32) -> Option<i3
 pub fn run_file(rows: u8, clauses: &[u8]) -> Vec<u8> {
     let before_clauses = [0, 1, GETS_ARITY, rows];
     let steps = [0, 0];
-    [&file::MARK[..], &file::VERSION.to_le_bytes(), &before_clauses, clauses, &steps].concat()
+    [&file::MARK[..], &VERSION.to_le_bytes(), &before_clauses, clauses, &steps].concat()
 }
 
 /// Not 20: "keys not strictly rising, or a key or result outside ±1,000,000". A row without a result is

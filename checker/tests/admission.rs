@@ -2,7 +2,7 @@
 
 mod common;
 
-use checker::admission::{admit, ClauseRecord, LiteralRecord, StepRecord};
+use checker::admission::{admit, ClauseRecord, LiteralRecord, SourceRecord, StepRecord};
 use checker::clause::Clause;
 use checker::refusal::Refusal;
 use common::*;
@@ -39,7 +39,7 @@ fn refusal(number: u8, place: usize) -> Option<Refusal> {
 
 #[test]
 fn slots_past_a_count_are_not_looked_at() {
-    let state = admit(2, 2, &ARITIES, &[good()]).unwrap();
+    let state = admit(1, 2, 2, &ARITIES, &[good()]).unwrap();
     assert_eq!((state.constants, state.level), (2, 0));
     assert_eq!(state.arities, [1, 2]);
     let literals = [literal(1, &[1]), literal(-2, &[1, 2])];
@@ -52,12 +52,12 @@ fn counts_and_arities_come_first() {
     let mut bad = good();
     bad.variables = 13;
     let bad = [bad];
-    assert_eq!(admit(17, 2, &ARITIES, &bad).err(), refusal(3, 0));
-    assert_eq!(admit(16, 9, &ARITIES, &bad).err(), refusal(3, 0));
-    assert_eq!(admit(16, 3, &ARITIES, &bad).err(), refusal(3, 0));
-    assert_eq!(admit(16, 2, &ARITIES, &vec![bad[0].clone(); 49]).err(), refusal(3, 0));
-    assert_eq!(admit(16, 2, &ARITIES, &bad).err(), refusal(3, 1));
-    assert!(admit(16, 2, &ARITIES, &vec![good(); 48]).is_ok());
+    assert_eq!(admit(1, 17, 2, &ARITIES, &bad).err(), refusal(3, 0));
+    assert_eq!(admit(1, 16, 9, &ARITIES, &bad).err(), refusal(3, 0));
+    assert_eq!(admit(1, 16, 3, &ARITIES, &bad).err(), refusal(3, 0));
+    assert_eq!(admit(1, 16, 2, &ARITIES, &vec![bad[0].clone(); 49]).err(), refusal(3, 0));
+    assert_eq!(admit(1, 16, 2, &ARITIES, &bad).err(), refusal(3, 1));
+    assert!(admit(1, 16, 2, &ARITIES, &vec![good(); 48]).is_ok());
 }
 
 #[test]
@@ -67,9 +67,9 @@ fn the_first_bad_clause_is_named() {
     let mut second = good();
     second.variables = 13;
     let clauses = [first, second];
-    assert_eq!(admit(1, 2, &ARITIES, &clauses).err(), refusal(4, 1));
+    assert_eq!(admit(1, 1, 2, &ARITIES, &clauses).err(), refusal(4, 1));
     let clauses = [good(), clauses[1].clone(), clauses[0].clone()];
-    assert_eq!(admit(1, 2, &ARITIES, &clauses).err(), refusal(3, 2));
+    assert_eq!(admit(1, 1, 2, &ARITIES, &clauses).err(), refusal(3, 2));
 }
 
 #[test]
@@ -77,7 +77,7 @@ fn each_field_of_a_record() {
     let changed = |change: fn(&mut ClauseRecord)| {
         let mut record = good();
         change(&mut record);
-        admit(1, 2, &ARITIES, &[good(), record]).err().map(|r| (r.number, r.place))
+        admit(1, 1, 2, &ARITIES, &[good(), record]).err().map(|r| (r.number, r.place))
     };
     assert_eq!(changed(|_| ()), None);
     assert_eq!(changed(|r| r.variables = 13), Some((3, 2)));
@@ -108,7 +108,7 @@ fn each_field_of_a_record() {
 
 #[test]
 fn steps_without_a_file() {
-    let mut state = admit(1, 2, &ARITIES, &[good()]).unwrap();
+    let mut state = admit(1, 1, 2, &ARITIES, &[good()]).unwrap();
     let mut offer = |record: StepRecord| {
         let answer = state.offer(&record);
         answer.map(|_| ()).map_err(|refusal| (refusal.number, refusal.place))
@@ -133,4 +133,96 @@ fn steps_without_a_file() {
     assert_eq!(offer(StepRecord { rule: 8, count: 255, ..none.clone() }), Err((18, 0)));
     assert_eq!(offer(StepRecord { rule: 8, count: 15, ..none }), Ok(()));
     assert_eq!((state.constants, state.trail.len()), (16, 0));
+}
+
+/// A record of the first clause's only atom at that constant
+fn source(constant: u8, sign: u8) -> SourceRecord {
+    let mut instance = [99; 12];
+    instance[..2].copy_from_slice(&[constant, constant]);
+    SourceRecord { clause: 1, number: 1, sign, instance_count: 2, instance }
+}
+
+/// P(b) decided; the atoms are those given, and past them such as would be refused.
+fn decision(atoms: &[SourceRecord]) -> StepRecord {
+    let bad = SourceRecord { sign: 9, instance_count: 99, ..SourceRecord::default() };
+    let mut record = StepRecord { rule: 2, clause: 1, literal: 1, sign: 1, ..Default::default() };
+    record.instance_count = 2;
+    record.instance[..2].copy_from_slice(&[2, 2]);
+    record.atom_count = atoms.len() as u8;
+    record.atoms = [bad; 24];
+    record.atoms[..atoms.len()].copy_from_slice(atoms);
+    record
+}
+
+#[test]
+fn atoms_of_a_decision_without_a_file() {
+    let first = admit(2, 2, 2, &ARITIES, &[good()]).unwrap();
+    let offer = |record: &StepRecord| {
+        let mut state = first.clone();
+        let answer = state.offer(record).map_err(|refusal| (refusal.number, refusal.place));
+        answer.map(|_| state.trail.len())
+    };
+    let whole = decision(&[source(1, 0), source(2, 1)]);
+    // b1 ≥ 11 and b2 ≤ 10
+    assert_eq!(offer(&whole), Err((13, 0)));
+    assert_eq!(offer(&decision(&[source(1, 1), source(2, 0)])), Ok(3));
+    assert_eq!(offer(&decision(&[])), Ok(1));
+    // 3 for any count, 4 for any sign
+    let changed = |change: fn(&mut StepRecord)| {
+        let mut record = decision(&[source(1, 1), source(2, 0)]);
+        change(&mut record);
+        offer(&record)
+    };
+    assert_eq!(changed(|r| r.atom_count = 25), Err((3, 0)));
+    assert_eq!(changed(|r| r.atom_count = 255), Err((3, 0)));
+    // The third atom has too many constants.
+    assert_eq!(changed(|r| r.atom_count = 3), Err((3, 0)));
+    assert_eq!(changed(|r| r.atoms[1].instance_count = 13), Err((3, 0)));
+    assert_eq!(changed(|r| r.atoms[1].sign = 2), Err((4, 0)));
+    assert_eq!(changed(|r| r.sign = 2), Err((4, 0)));
+    // 3 before 4, wherever they are
+    assert_eq!(
+        changed(|r| {
+            r.atoms[0].sign = 2;
+            r.atoms[1].instance_count = 13;
+        }),
+        Err((3, 0))
+    );
+    assert_eq!(
+        changed(|r| {
+            r.sign = 2;
+            r.atom_count = 25;
+        }),
+        Err((3, 0))
+    );
+    // 4 of an atom before 10 of the literal, 10 of an atom before 11 of the literal
+    assert_eq!(
+        changed(|r| {
+            r.clause = 9;
+            r.atoms[1].sign = 2;
+        }),
+        Err((4, 0))
+    );
+    assert_eq!(changed(|r| r.atoms[1].number = 2), Err((10, 0)));
+    assert_eq!(changed(|r| r.atoms[1] = r.atoms[0]), Err((11, 0)));
+    // Other rules have no atoms.
+    assert_eq!(changed(|r| (r.rule, r.count, r.atom_count) = (8, 1, 255)), Ok(0));
+}
+
+#[test]
+fn in_a_state_of_version_1_atoms_are_not_looked_at() {
+    let mut state = admit(1, 2, 2, &ARITIES, &[good()]).unwrap();
+    let mut record = decision(&[]);
+    record.atom_count = 255;
+    assert_eq!(state.offer(&record), yes(&[-1, 0]));
+    assert_eq!(state.trail.len(), 1);
+}
+
+#[test]
+fn a_clause_has_no_c_below_its_range_in_any_version() {
+    for version in [1, 2] {
+        let mut record = good();
+        record.atoms[0].c = -1_000_001;
+        assert_eq!(admit(version, 1, 2, &ARITIES, &[record]).err(), refusal(4, 1));
+    }
 }

@@ -3,7 +3,7 @@
 use checker::cases::{
     answers, damaged_files, inspections, listings, packed, packed_records, run_files,
 };
-use checker::limits::FILE_BYTES;
+use checker::limits::READ_BYTES;
 use checker::listing::listing;
 use std::fs;
 
@@ -42,7 +42,7 @@ fn the_files_come_to_what_file_cases_must_print() {
     let mut text = listings(&damaged_files(DAMAGES)) + &inspections(&run_files(RUNS));
     for name in names {
         let bytes = held(&format!("data/{name}"));
-        text += &format!("{name}\n{}", listing(&bytes[..bytes.len().min(FILE_BYTES)]));
+        text += &format!("{name}\n{}", listing(&bytes[..bytes.len().min(READ_BYTES)]));
     }
     assert_eq!(text, String::from_utf8(held("stdout")).expect("lines"));
 }

@@ -5,6 +5,7 @@ mod common;
 use checker::clause::Atom;
 use checker::constraint::{test, Numbers};
 use checker::generate::random_set;
+use checker::limits;
 use checker::random::Random;
 use checker::refusal::Refusal;
 use common::*;
@@ -22,7 +23,9 @@ fn refusals() {
     assert_eq!(test(1, &[good, good, atom(0, 2, 0)]), refused(4, 3));
     assert_eq!(test(1, &[atom(2, 0, 0)]), refused(4, 1));
     assert_eq!(test(1, &[at_most(1, 1_000_001)]), refused(4, 1));
-    assert_eq!(test(1, &[at_most(1, -1_000_001)]), refused(4, 1));
+    assert_eq!(test(1, &[at_most(1, -1_000_001)]), yes(&[-1_000_001]));
+    assert_eq!(test(1, &[at_least(1, 1_000_001)]), yes(&[1_000_001]));
+    assert_eq!(test(1, &[at_most(1, -1_000_002)]), refused(4, 1));
     assert_eq!(test(1, &[at_most(1, i32::MIN)]), refused(4, 1));
     // With no constants every atom is 4.
     assert_eq!(test(0, &[good]), refused(4, 1));
@@ -45,6 +48,29 @@ fn long_chains_at_the_ends_of_the_range() {
     assert_eq!(test(16, &atoms), Ok(Some(up)));
     atoms.push(at_most(16, 1_000_000));
     assert_eq!(test(16, &atoms), Ok(None));
+}
+
+#[test]
+fn long_chains_of_denials() {
+    // b1 ≤ b2 − 1,000,001 and so on up to b16, which is at most −1,000,001
+    let mut atoms: Vec<Atom> = (1..16).map(|x| atom(x, x + 1, -1_000_001)).collect();
+    atoms.push(at_most(16, -1_000_001));
+    let down: Numbers = (-16..=-1).map(|times| times * 1_000_001).collect();
+    assert_eq!(test(16, &atoms), Ok(Some(down)));
+    atoms.pop();
+    atoms.push(at_least(1, 1_000_001));
+    let up: Numbers = (1..=16).map(|times| times * 1_000_001).collect();
+    assert_eq!(test(16, &atoms), Ok(Some(up)));
+    // An atom with its denial is never possible, and one of the two always is.
+    for c in [1_000_000, -1_000_000, -1_000_001, 0, -1] {
+        for atom in [at_most(1, c), atom(0, 1, c), atom(1, 2, c), atom(2, 1, c), atom(1, 1, c)] {
+            assert_eq!(atom.denial().denial(), atom);
+            assert_eq!(test(2, &[atom, atom.denial()]), Ok(None));
+            let [one, other] =
+                [atom, atom.denial()].map(|atom| test(2, &[atom]).expect("in range").is_some());
+            assert!(one || other);
+        }
+    }
 }
 
 #[test]
@@ -201,16 +227,20 @@ fn numbers_by_table(constants: usize, atoms: &[Atom]) -> Option<Numbers> {
 #[test]
 fn beside_a_table_of_bounds() {
     let mut answers = [0, 0];
+    let mut least = [0, 0];
     let mut ends = [0, 0];
     for seed in 0..20_000 {
         let (constants, atoms) = random_set(seed);
         let numbers = test(constants, &atoms).expect("a set the test takes");
         assert_eq!(numbers, numbers_by_table(constants, &atoms), "seed {seed}");
         answers[numbers.is_some() as usize] += 1;
+        let has_least = atoms.iter().any(|atom| atom.c == limits::LEAST_GROUND_C);
+        least[numbers.is_some() as usize] += has_least as usize;
         for number in numbers.unwrap_or_default() {
             ends = [ends[0].min(number), ends[1].max(number)];
         }
     }
     assert!(answers.iter().all(|&count| count > 5_000), "{answers:?}");
+    assert!(least.iter().all(|&count| count > 500), "{least:?}");
     assert!(ends[0] < -5_000_000 && ends[1] > 5_000_000, "{ends:?}");
 }

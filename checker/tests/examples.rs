@@ -117,7 +117,7 @@ fn e11_factorize_skip_and_no_further() {
 fn e12_backtrack() {
     let mut state = resolved();
     accept(&mut state, &[factorize(1, 2), SKIP, backtrack(1)]);
-    let origin = Origin { decision: false, clause: 3, literal: 1, instance: vec![A] };
+    let origin = Origin { decision: false, clause: 3, literal: 1, instance: vec![A], brought: 0 };
     assert_eq!(state.trail, [Entry::Foreground(literal(-1, &[A]), origin)]);
     assert_eq!(state.level, 0);
     assert_eq!(state.learned, [clause(1, &[], &[literal(-1, &[1])])]);

@@ -35,16 +35,17 @@ fn steps() -> Vec<Step> {
 
 /// The steps as a file, with three predicates of that arity
 fn file(constants: u8, arity: u8, clauses: Vec<Clause>, steps: Vec<Step>) -> Vec<u8> {
-    write(&RunFile { constants, arities: vec![arity; 3], clauses, steps }).bytes
+    write(&RunFile { version: 1, constants, arities: vec![arity; 3], clauses, steps }).bytes
 }
 
 #[test]
-fn propagate_conflict_and_backtrack_hand_numbers_on() {
-    let mut state = State::first(2, vec![1; 3], input());
+fn propagate_decide_conflict_and_backtrack_hand_numbers_on() {
+    let mut state = State::first(1, 2, vec![1; 3], input());
     let handed: Vec<_> = steps().iter().map(|step| state.take(step)).collect();
     // a ≥ 3: b is 0, a −1 and zero −4.
     assert_eq!(handed[0], yes(&[3, 4]));
-    assert_eq!(handed[1], Ok(None));
+    // The decision brings nothing: the numbers of the trail.
+    assert_eq!(handed[1], yes(&[3, 4]));
     // and b ≥ 20: b is 0, a −1 and zero −20.
     assert_eq!(handed[2], yes(&[19, 20]));
     // and a ≤ 10, b ≥ 6: b is 0, zero −20 and a −10.
@@ -62,7 +63,7 @@ fn other_rules_hand_none_on() {
     let steps = [
         (grow(1), Ok(None)),
         (propagate(1, 1, &[A, A]), yes(&[-1, 0])),
-        (decide(1, 1, true, &[B, B]), Ok(None)),
+        (decide(1, 1, true, &[B, B]), yes(&[-1, 0])),
         (conflict(2, &[A, A]), yes(&[-1, 0])),
         (SKIP, Ok(None)),
         (factorize(1, 2), Ok(None)),
@@ -79,6 +80,7 @@ fn a_line_after_each_step_that_hands_numbers_on() {
     let lines = "1 propagate 2 0\n\
                  numbers 3 4\n\
                  2 decide 3 1\n\
+                 numbers 3 4\n\
                  3 propagate 5 1\n\
                  numbers 19 20\n\
                  4 conflict 5 1\n\
@@ -115,11 +117,11 @@ fn with_no_constants_the_line_is_just_the_word() {
     ];
     let steps = vec![decide(2, 2, true, &[]), propagate(1, 1, &[]), conflict(2, &[]), backtrack(1)];
     let text = inspection_with_numbers(&file(0, 0, input.clone(), steps.clone()));
-    let lines = "1 decide 1 1\n2 propagate 2 1\nnumbers\n3 conflict 2 1\nnumbers\n4 backtrack refused 16\nstopped\n";
+    let lines = "1 decide 1 1\nnumbers\n2 propagate 2 1\nnumbers\n3 conflict 2 1\nnumbers\n4 backtrack refused 16\nstopped\n";
     assert_eq!(&text[..lines.len()], lines);
     let steps = vec![propagate(1, 1, &[]), decide(2, 2, true, &[]), conflict(2, &[]), backtrack(2)];
     let text = inspection_with_numbers(&file(0, 0, input, steps));
-    let lines = "1 propagate 1 0\nnumbers\n2 decide 2 1\n3 conflict 2 1\nnumbers\n4 backtrack 2 0\nnumbers\nopen\n";
+    let lines = "1 propagate 1 0\nnumbers\n2 decide 2 1\nnumbers\n3 conflict 2 1\nnumbers\n4 backtrack 2 0\nnumbers\nopen\n";
     assert_eq!(&text[..lines.len()], lines);
 }
 

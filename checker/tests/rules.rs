@@ -14,7 +14,7 @@ fn closure(clause: Clause, instance: &[u8]) -> Option<Closure> {
 
 fn propagated(own: Literal, clause: u8, literal: u8, instance: &[u8]) -> Entry {
     let instance = instance.to_vec();
-    Entry::Foreground(own, Origin { decision: false, clause, literal, instance })
+    Entry::Foreground(own, Origin { decision: false, clause, literal, instance, brought: 0 })
 }
 
 fn atoms_of(trail: &[Entry]) -> Vec<Atom> {
@@ -32,9 +32,9 @@ fn propagate_appends_the_literal_then_new_atoms_in_clause_order_each_once() {
     accept(&mut state, &[propagate(1, 1, &[1]), propagate(2, 1, &[1, 1])]);
     let expected = [
         propagated(literal(2, &[1]), 1, 1, &[1]),
-        Entry::Background(at_least(1, 0)),
+        Entry::Background(at_least(1, 0), None),
         propagated(literal(1, &[1, 1]), 2, 1, &[1, 1]),
-        Entry::Background(at_most(1, 9)),
+        Entry::Background(at_most(1, 9), None),
     ];
     assert_eq!(state.trail, expected);
     assert_eq!(state.level, 0);
@@ -246,7 +246,7 @@ fn wide(own: usize, other: usize, atoms: fn(u8) -> Vec<Atom>) -> (State, Result<
         accept(&mut state, &[decide(clause, 2, false, &vec![1; others + 1])]);
     }
     accept(&mut state, &[propagate(1, 1, &vec![1; own + 1]), conflict(2, &vec![1; other + 1])]);
-    while matches!(state.trail.last(), Some(Entry::Background(_))) {
+    while matches!(state.trail.last(), Some(Entry::Background(..))) {
         accept(&mut state, &[SKIP]);
     }
     let before = state.clone();

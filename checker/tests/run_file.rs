@@ -41,10 +41,12 @@ fn mark_and_version() {
     assert_bad(&[0x58, 0x59], 1, 0);
     assert_bad(&[0x58, 0x59, 0x5A], 2, 0);
     assert_bad(b"DRG", 2, 0);
-    assert_bad(&set(3, 2), 2, 3);
+    assert_bad(&set(3, 3), 2, 3);
     assert_bad(&set(3, 0), 2, 3);
     assert_bad(&set(4, 1), 2, 3);
-    assert_bad(b"DRF\x02", 1, 3);
+    assert_bad(b"DRF\x03", 1, 3);
+    // Without decisions a file says the same in both versions.
+    assert_eq!(listing(&set(3, 2)), listing(&EXAMPLE));
 }
 
 #[test]
@@ -76,12 +78,14 @@ fn numbers_out_of_range_in_an_atom() {
     for (c, good) in
         [(1_000_000, true), (-1_000_000, true), (1_000_001, false), (-1_000_001, false)]
     {
-        let mut bytes = EXAMPLE.to_vec();
-        bytes[14..18].copy_from_slice(&i32::to_le_bytes(c));
-        if good {
-            assert!(read(&bytes).is_ok());
-        } else {
-            assert_bad(&bytes, 4, 14);
+        for version in [1, 2] {
+            let mut bytes = set(3, version);
+            bytes[14..18].copy_from_slice(&i32::to_le_bytes(c));
+            if good {
+                assert!(read(&bytes).is_ok());
+            } else {
+                assert_bad(&bytes, 4, 14);
+            }
         }
     }
 }
@@ -96,9 +100,8 @@ fn numbers_out_of_range_in_a_literal() {
 }
 
 fn file(clause: Clause, steps: &[Step]) -> Vec<u8> {
-    let file =
-        RunFile { constants: 1, arities: vec![1], clauses: vec![clause], steps: steps.to_vec() };
-    write(&file).bytes
+    let (arities, clauses, steps) = (vec![1], vec![clause], steps.to_vec());
+    write(&RunFile { version: 1, constants: 1, arities, clauses, steps }).bytes
 }
 
 #[test]
@@ -172,6 +175,7 @@ fn the_longest_valid_file() {
     let literals = [literal(1, &[1, 2, 3]); limits::LITERALS];
     let atoms: Vec<_> = (1..=12).flat_map(|x| [at_most(x, 9), at_least(x, 0)]).collect();
     let file = RunFile {
+        version: 1,
         constants: 16,
         arities: vec![3; limits::PREDICATES],
         clauses: vec![clause(12, &atoms, &literals); limits::INPUT_CLAUSES],

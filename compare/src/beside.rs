@@ -1,8 +1,9 @@
 //! A file through the proved tool and through the independent checker: what the two tell differently.
 
-use checker::file::BadFile;
+use checker::file::{write, BadFile, VERSIONS};
 use checker::listing::{self, bad_file, final_state, run, Run};
-use checker::rules::ANSWERS;
+use checker::replay::replayed;
+use checker::rules::answers;
 use checker::step::RULE_NAMES;
 use drf::{inspect, inspect_numbers, judge, Short, Told, Verdict};
 use drf::{MOST_INSPECTION, MOST_LISTING, MOST_WITH_NUMBERS};
@@ -35,6 +36,24 @@ impl Buffer {
     pub fn compare(&mut self, file: &[u8]) -> Result<Made, String> {
         let compared = catch_unwind(AssertUnwindSafe(|| self.compare_made(file)));
         compared.unwrap_or_else(|_| Err("a panic".to_string()))
+    }
+
+    /// The same, and then of the file of the steps behind the trail at the end, where there is one: of it the two must tell the same, that every
+    /// step is accepted, and that its trail and level are those of the first.
+    pub fn compare_replayed(&mut self, file: &[u8]) -> Result<Made, String> {
+        let made = self.compare(file)?;
+        let Ok(end) = &made else { return Ok(made) };
+        let Some(again) = replayed(&end.state) else { return Ok(made) };
+        let told = self.compare(&write(&again).bytes);
+        let run = told.map_err(|difference| format!("replayed: {difference}"))?;
+        let run = run.map_err(|bad| format!("replayed: {bad:?}"))?;
+        if run.tried.iter().any(|tried| tried.answer.is_err()) {
+            return Err("replayed: a step is refused".to_string());
+        }
+        if (&run.state.trail, run.state.level) != (&end.state.trail, end.state.level) {
+            return Err("replayed: another trail or level".to_string());
+        }
+        Ok(made)
     }
 
     fn compare_made(&mut self, file: &[u8]) -> Result<Made, String> {
@@ -123,13 +142,14 @@ fn last_answer(made: &Made) -> (u8, u64) {
     refusal.map_or((0, 0), |refusal| (refusal.number, refusal.place as u64))
 }
 
-/// What files came to: how many, their steps, which answers each rule was given, and how many of each rule's steps handed numbers on.
+/// What files came to: how many, their steps, which answers each rule was given in each version, and how many of each rule's steps handed numbers
+/// on.
 #[derive(Default)]
 pub struct Seen {
     pub files: usize,
     pub steps: usize,
-    /// Of each rule the numbers it was answered by, 0 for accepted, as bits.
-    answers: [u32; RULE_NAMES.len()],
+    /// Of each version and rule the numbers it was answered by, 0 for accepted, as bits.
+    answers: [[u32; RULE_NAMES.len()]; VERSIONS.len()],
     /// Of each rule the lines of numbers.
     numbers: [usize; RULE_NAMES.len()],
 }
@@ -143,7 +163,7 @@ impl Seen {
             let rule = RULE_NAMES.iter().position(|name| *name == tried.rule_name);
             let rule = rule.expect("a rule's name");
             let number = tried.answer.map_or_else(|refusal| refusal.number, |_| 0);
-            self.answers[rule] |= 1 << number;
+            self.answers[run.state.version as usize - 1][rule] |= 1 << number;
             self.numbers[rule] += tried.numbers.is_some() as usize;
         }
     }
@@ -153,7 +173,9 @@ impl Seen {
         self.files += others.files;
         self.steps += others.steps;
         for rule in 0..RULE_NAMES.len() {
-            self.answers[rule] |= others.answers[rule];
+            for (ours, theirs) in self.answers.iter_mut().zip(&others.answers) {
+                ours[rule] |= theirs[rule];
+            }
             self.numbers[rule] += others.numbers[rule];
         }
     }
@@ -163,25 +185,32 @@ impl Seen {
         RULE_NAMES.into_iter().zip(self.numbers).filter(|(_, lines)| *lines > 0).collect()
     }
 
-    fn has(&self, rule: u8, answer: u8) -> bool {
-        self.answers[rule as usize - 1] & 1 << answer != 0
+    fn has(&self, version: u16, rule: u8, answer: u8) -> bool {
+        self.answers[version as usize - 1][rule as usize - 1] & 1 << answer != 0
     }
 
-    /// How many pairs of rule and answer were seen, of those that can be
+    /// How many pairs of rule and answer were seen in each version, of those that can be
     pub fn pairs(&self) -> String {
-        let seen: u32 = self.answers.iter().map(|numbers| numbers.count_ones()).sum();
-        let all: usize = ANSWERS.iter().map(|(_, answers)| answers.len()).sum();
-        format!("{seen} of {all} pairs of rule and answer")
+        let of_version = |version: u16| {
+            let all = pairs_of(version).len();
+            format!("{} of {all} in version {version}", all - self.unseen(version).len())
+        };
+        format!("pairs of rule and answer: {}", VERSIONS.map(of_version).join(", "))
     }
 
-    /// The pairs that can be seen and were not
-    pub fn unseen(&self) -> Vec<String> {
-        let pairs = ANSWERS
-            .iter()
-            .flat_map(|(rule, answers)| answers.iter().map(move |answer| (*rule, *answer)));
-        pairs
-            .filter(|(rule, answer)| !self.has(*rule, *answer))
-            .map(|(rule, answer)| format!("{} {answer}", RULE_NAMES[rule as usize - 1]))
-            .collect()
+    /// The pairs that can be seen in a version and were not
+    pub fn unseen(&self, version: u16) -> Vec<String> {
+        let mut pairs = pairs_of(version);
+        pairs.retain(|(rule, answer)| !self.has(version, *rule, *answer));
+        let named =
+            |(rule, answer): (u8, u8)| format!("{} {answer}", RULE_NAMES[rule as usize - 1]);
+        pairs.into_iter().map(named).collect()
     }
+}
+
+/// The pairs of rule and answer that can be seen in a version
+fn pairs_of(version: u16) -> Vec<(u8, u8)> {
+    let rules = answers(version);
+    let pairs = rules.iter().flat_map(|(rule, numbers)| numbers.iter().map(|&n| (*rule, n)));
+    pairs.collect()
 }

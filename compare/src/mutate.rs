@@ -6,7 +6,7 @@ use checker::generate::onward;
 use checker::limits;
 use checker::random::Random;
 use checker::state::State;
-use checker::step::Step;
+use checker::step::{Source, Step};
 
 /// A player's steps are put in, at most so many at a time.
 const ONWARD: usize = 24;
@@ -24,11 +24,18 @@ pub fn mutated(random: &mut Random, file: &[u8], other: &[u8]) -> Vec<u8> {
         play(random, &mut changed);
     }
     let bytes = write(&changed).bytes;
-    if random.percent(10) {
-        with_bytes_changed(random, &bytes)
-    } else {
-        bytes
+    match random.below(1_000) {
+        0..=98 => with_bytes_changed(random, &bytes),
+        99 => stretched(random, bytes),
+        _ => bytes,
     }
+}
+
+/// More bytes behind a file's: as many as a file may have, or a few more.
+fn stretched(random: &mut Random, mut bytes: Vec<u8>) -> Vec<u8> {
+    let length = limits::FILE_BYTES + random.pick(&[0, 0, 1, 1, 1, 2, 500]);
+    bytes.resize(length.max(bytes.len()), random.pick(&[0, 1, 6]));
+    bytes
 }
 
 fn change(random: &mut Random, file: &mut RunFile, other: Option<&RunFile>) {
@@ -98,11 +105,12 @@ fn change_step(random: &mut Random, file: &mut RunFile) {
             1 => *literal = near(random, *literal),
             _ => change_instance(random, instance),
         },
-        Step::Decide { clause, literal, positive, instance } => match random.below(4) {
+        Step::Decide { clause, literal, positive, instance, atoms } => match random.below(8) {
             0 => *clause = near(random, *clause),
             1 => *literal = near(random, *literal),
             2 => *positive = !*positive,
-            _ => change_instance(random, instance),
+            3 => change_instance(random, instance),
+            _ => change_atoms_brought(random, *clause, instance.clone(), atoms),
         },
         Step::Conflict { clause, instance } => match random.below(2) {
             0 => *clause = near(random, *clause),
@@ -119,6 +127,42 @@ fn change_step(random: &mut Random, file: &mut RunFile) {
         Step::Grow { count } => *count = near(random, *count),
     }
     file.steps.truncate(limits::STEPS);
+}
+
+/// An atom more, of a clause and instance that are given or near them; one fewer; one twice, or with its denial; two in another order; or another
+/// clause, number, sign or instance.
+fn change_atoms_brought(
+    random: &mut Random,
+    clause: u8,
+    instance: Vec<u8>,
+    atoms: &mut Vec<Source>,
+) {
+    if atoms.is_empty() || random.percent(30) {
+        let (number, stands) = (1 + random.below(6) as u8, random.percent(50));
+        let mut source = Source { clause, number, stands, instance };
+        if random.percent(30) {
+            source.clause = near(random, clause);
+            change_instance(random, &mut source.instance);
+        }
+        let at = random.below(atoms.len() + 1);
+        atoms.insert(at, source);
+    } else {
+        let (index, other) = (random.below(atoms.len()), random.below(atoms.len()));
+        match random.below(8) {
+            0 => drop(atoms.remove(index)),
+            1 => {
+                let again = atoms[index].clone();
+                atoms.push(Source { stands: again.stands ^ random.percent(50), ..again });
+            }
+            2 => atoms.swap(index, other),
+            3 => atoms[index].clause = near(random, atoms[index].clause),
+            4 => atoms[index].number = near(random, atoms[index].number),
+            5 | 6 => atoms[index].stands ^= true,
+            _ => change_instance(random, &mut atoms[index].instance),
+        }
+    }
+    // Now and then one more than there may be.
+    atoms.truncate(limits::BROUGHT + random.percent(10) as usize);
 }
 
 fn change_instance(random: &mut Random, instance: &mut Vec<u8>) {
@@ -138,12 +182,18 @@ fn any_step(random: &mut Random, file: &RunFile) -> Step {
     let clause = random.below(file.clauses.len() + 3) as u8;
     let held = file.clauses.get((clause as usize).wrapping_sub(1));
     let variables = held.map_or(random.below(4), |held| held.variables.into());
-    let instance =
+    let instance: Vec<u8> =
         (0..variables).map(|_| 1 + random.below(file.constants.max(1).into()) as u8).collect();
     let literal = random.below(limits::LITERALS / 2) as u8;
     match random.below(8) {
         0 => Step::Propagate { clause, literal, instance },
-        1 => Step::Decide { clause, literal, positive: random.percent(50), instance },
+        1 => {
+            let mut atoms = Vec::new();
+            for _ in 0..random.pick(&[0, 0, 1, 2]) {
+                change_atoms_brought(random, clause, instance.clone(), &mut atoms);
+            }
+            Step::Decide { clause, literal, positive: random.percent(50), instance, atoms }
+        }
         2 => Step::Conflict { clause, instance },
         3 => Step::Resolve { literal },
         4 => Step::Factorize { first: literal, second: random.below(4) as u8 },
@@ -227,8 +277,12 @@ fn change_literals(random: &mut Random, clause: &mut Clause, predicates: usize, 
     }
 }
 
-/// Constants, or an arity.
+/// The version, constants, or an arity.
 fn change_front(random: &mut Random, file: &mut RunFile) {
+    if random.percent(30) {
+        file.version = 3 - file.version;
+        return;
+    }
     if file.arities.is_empty() || random.percent(60) {
         file.constants = near(random, file.constants).min(limits::CONSTANTS as u8 + 1);
         return;
@@ -254,10 +308,8 @@ fn splice(random: &mut Random, file: &mut RunFile, other: &RunFile) {
 /// without those that are refused. A file that is bad stays as it is.
 fn play(random: &mut Random, file: &mut RunFile) {
     // Read again, so that nothing is left in it that no file says, as arguments past an arity.
-    let Ok(RunFile { constants, arities, clauses, steps }) = read(&write(file).bytes) else {
-        return;
-    };
-    let mut state = State::first(constants.into(), arities, clauses);
+    let Ok(again) = read(&write(file).bytes) else { return };
+    let (mut state, steps) = (again.first_state(), again.steps);
     let (first, rest) = steps.split_at(random.within(0..=steps.len()));
     let mut played = accepted(&mut state, first);
     if played.len() < MOST {

@@ -1,15 +1,17 @@
-//! Run files with steps of one rule near a trail of some length, beside files without them that are the same but for them.
+//! Run files with steps of one rule near a trail of some length, beside files without them that are the same but for them. They are of version 1
+//! but where decisions bring atoms.
 //!
 //! A trail climbs to its length cheaply, by decisions or by a few propagations of clauses with 24 atoms, so that the steps asked for are a good
 //! part of the file's time. Of Conflict and Backtrack there is one: a conflict stands until a Backtrack ends it, so no two files differ by more.
 
 use checker::clause::{Atom, Clause, Literal};
 use checker::file::{write, RunFile};
-use checker::step::Step;
+use checker::step::{Source, Step};
 
 /// Steps of one rule: the file without them, the file with them, and how many they are.
 pub struct Near {
     pub name: String,
+    pub version: u16,
     pub without: Vec<u8>,
     pub with: Vec<u8>,
     pub count: usize,
@@ -27,9 +29,10 @@ const ARITIES: [u8; 8] = [3, 3, 3, 3, 3, 3, 3, 1];
 /// Bounds and differences from here on hold of small numbers.
 const FAR: i32 = 1_000;
 
-/// A file that is made: its clauses, its steps and how many constants it has.
+/// A file that is made: its version, its clauses, its steps and how many constants it has.
 #[derive(Clone)]
 struct Draft {
+    version: u16,
     constants: u8,
     clauses: Vec<Clause>,
     steps: Vec<Step>,
@@ -45,7 +48,13 @@ fn literal(positive: bool, predicate: u8, x: u8) -> Literal {
 }
 
 fn decide(clause: u8, instance: Vec<u8>) -> Step {
-    Step::Decide { clause, literal: 1, positive: true, instance }
+    Step::Decide { clause, literal: 1, positive: true, instance, atoms: Vec::new() }
+}
+
+/// A decision that brings one atom of its clause
+fn decide_with(clause: u8, number: u8, instance: Vec<u8>) -> Step {
+    let atoms = vec![Source { clause, number, stands: true, instance: instance.clone() }];
+    Step::Decide { clause, literal: 1, positive: true, instance, atoms }
 }
 
 fn propagate(clause: u8, instance: Vec<u8>) -> Step {
@@ -58,7 +67,7 @@ fn conflict(clause: u8, instance: Vec<u8>) -> Step {
 
 impl Draft {
     fn new(constants: u8) -> Draft {
-        Draft { constants, clauses: Vec::new(), steps: Vec::new(), atoms: 0 }
+        Draft { version: 1, constants, clauses: Vec::new(), steps: Vec::new(), atoms: 0 }
     }
 
     /// The number of a clause that is added
@@ -117,6 +126,7 @@ impl Draft {
 
     fn bytes(&self) -> Vec<u8> {
         write(&RunFile {
+            version: self.version,
             constants: self.constants,
             arities: ARITIES.to_vec(),
             clauses: self.clauses.clone(),
@@ -127,7 +137,7 @@ impl Draft {
 }
 
 fn near(name: String, without: Draft, with: Draft, count: usize) -> Near {
-    Near { name, without: without.bytes(), with: with.bytes(), count }
+    Near { name, version: with.version, without: without.bytes(), with: with.bytes(), count }
 }
 
 /// The steps at the end of a draft, so many
@@ -215,7 +225,17 @@ fn grows(entries: usize) -> Near {
 
 /// Propagations of a literal and one atom that is new. A difference has bounds beside it, which are on the trail by then.
 fn propagates(constants: u8, entries: usize, kind: Atoms) -> Near {
+    one_atom_each("propagate", constants, entries, kind)
+}
+
+/// On the same trail decisions that bring that atom alone
+fn decides_with(constants: u8, entries: usize, kind: Atoms) -> Near {
+    one_atom_each("decide", constants, entries, kind)
+}
+
+fn one_atom_each(rule: &str, constants: u8, entries: usize, kind: Atoms) -> Near {
     let mut draft = Draft::new(constants);
+    draft.version = if rule == "decide" { 2 } else { 1 };
     let [count, first] = match (kind, entries) {
         (Atoms::Bounds, 10) => [4, 0],
         (Atoms::Bounds, _) => [10, 0],
@@ -234,10 +254,35 @@ fn propagates(constants: u8, entries: usize, kind: Atoms) -> Near {
             let atom = draft.atom(4, 5);
             (draft.clause(5, [&sides[..], &[atom]].concat(), vec![own]), vec![1, 2])
         };
-        draft.steps.push(propagate(clause, [&three[..], &others].concat()));
+        let instance = [&three[..], &others].concat();
+        // The first difference comes with its bounds.
+        let step = if rule == "propagate" || (k as usize) < first {
+            propagate(clause, instance)
+        } else {
+            let atoms = draft.clauses[clause as usize - 1].atoms.len() as u8;
+            decide_with(clause, atoms, instance)
+        };
+        draft.steps.push(step);
     }
     let name = if kind == Atoms::Bounds { "bounds" } else { "differences" };
-    last(format!("propagate, {name}, {constants} constants, {entries} entries"), draft, count)
+    last(format!("{rule}, {name}, {constants} constants, {entries} entries"), draft, count)
+}
+
+/// Decisions that bring 24 atoms each, of 16 constants, on a trail of bounds
+fn decides_with_most(entries: usize) -> Near {
+    let count = entries / 40;
+    let mut draft = Draft::new(16);
+    draft.version = 2;
+    draft.propagations(entries - 25 * count, Atoms::Bounds);
+    let sides: Vec<Atom> = (0..12).flat_map(|_| [draft.atom(1, 0), draft.atom(0, 1)]).collect();
+    let clause = draft.clause(3, sides, vec![literal(true, 7, 1)]);
+    for k in 1..=count as u8 {
+        let instance = vec![k, 1, 1];
+        let source = |number| Source { clause, number, stands: true, instance: instance.clone() };
+        let atoms = (1..=24).map(source).collect();
+        draft.steps.push(Step::Decide { clause, literal: 1, positive: true, instance, atoms });
+    }
+    last(format!("decide, 24 atoms each, 16 constants, {entries} entries"), draft, count)
 }
 
 /// On a trail of bounds between two decisions that are denied together: the Conflict alone, or the Backtrack alone.
@@ -258,7 +303,8 @@ fn ends(rule: &str, constants: u8, entries: usize) -> Near {
     last(format!("{rule}, {constants} constants, {entries} entries"), draft, 1)
 }
 
-/// Every rule on trails of 10, 80 and 160 entries; those that test atoms with 2, 4 and 16 constants.
+/// Every rule on trails of 10, 80 and 160 entries; those that test atoms with 2, 4 and 16 constants, decisions that bring atoms beside propagations
+/// of the same.
 pub fn all() -> Vec<Near> {
     let mut rows = Vec::new();
     for rule in [decides, skips, resolves, factorizes, grows] {
@@ -267,6 +313,7 @@ pub fn all() -> Vec<Near> {
     let mut tests: Vec<Box<dyn Fn(u8, usize) -> Near>> = Vec::new();
     for kind in [Atoms::Bounds, Atoms::Differences] {
         tests.push(Box::new(move |constants, entries| propagates(constants, entries, kind)));
+        tests.push(Box::new(move |constants, entries| decides_with(constants, entries, kind)));
     }
     for rule in ["conflict", "backtrack"] {
         tests.push(Box::new(move |constants, entries| ends(rule, constants, entries)));
@@ -276,5 +323,6 @@ pub fn all() -> Vec<Near> {
             rows.extend([10, 80, 160].map(|entries| test(constants, entries)));
         }
     }
+    rows.extend([80, 160].map(decides_with_most));
     rows
 }

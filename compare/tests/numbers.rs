@@ -1,10 +1,10 @@
 //! The numbers behind each yes, on files made for them: no constants, one, and as many as there may be; numbers on both sides of 0, at a
-//! distance, and as far from it as a file brings them; the longest text.
+//! distance, and as far from it as a file brings them, denials of atoms too; the longest text.
 
 use checker::clause::{Atom, Clause, Literal};
 use checker::file::{write, RunFile};
 use checker::limits;
-use checker::step::Step;
+use checker::step::{Source, Step};
 use compare::beside::Buffer;
 
 fn clause(variables: u8, atoms: Vec<Atom>, literals: &[(bool, u8, &[u8])]) -> Clause {
@@ -29,21 +29,33 @@ fn propagate(clause: u8, literal: u8, instance: &[u8]) -> Step {
 }
 
 fn decide(clause: u8, literal: u8, instance: &[u8]) -> Step {
-    Step::Decide { clause, literal, positive: true, instance: instance.to_vec() }
+    decide_with(clause, literal, instance, Vec::new())
+}
+
+fn decide_with(clause: u8, literal: u8, instance: &[u8], atoms: Vec<Source>) -> Step {
+    Step::Decide { clause, literal, positive: true, instance: instance.to_vec(), atoms }
 }
 
 fn conflict(clause: u8, instance: &[u8]) -> Step {
     Step::Conflict { clause, instance: instance.to_vec() }
 }
 
-/// Compares a file whose predicates all have that arity. All its steps are accepted, and these are the numbers handed on.
+/// Compares a file whose predicates all have that arity, in each version that it can be of. All its steps are accepted, and these are the
+/// numbers handed on.
 fn hands_on(constants: u8, arity: u8, clauses: Vec<Clause>, steps: Vec<Step>, numbers: &[&[i32]]) {
+    let brings = |step: &Step| matches!(step, Step::Decide { atoms, .. } if !atoms.is_empty());
+    let first = if steps.iter().any(brings) { 2 } else { 1 };
     let arities = vec![arity; limits::PREDICATES];
-    let file = write(&RunFile { constants, arities, clauses, steps }).bytes;
-    let run = Buffer::default().compare(&file).expect("no difference").expect("a file in order");
-    assert!(run.tried.iter().all(|tried| tried.answer.is_ok()), "{:?}", run.tried);
-    let handed: Vec<_> = run.tried.iter().filter_map(|tried| tried.numbers.as_deref()).collect();
-    assert_eq!(handed, numbers);
+    let mut file = RunFile { version: first, constants, arities, clauses, steps };
+    for version in first..=2 {
+        file.version = version;
+        let told = Buffer::default().compare(&write(&file).bytes);
+        let run = told.expect("no difference").expect("a file in order");
+        assert!(run.tried.iter().all(|tried| tried.answer.is_ok()), "{:?}", run.tried);
+        let handed: Vec<_> =
+            run.tried.iter().filter_map(|tried| tried.numbers.as_deref()).collect();
+        assert_eq!(handed, numbers, "version {version}");
+    }
 }
 
 #[test]
@@ -58,11 +70,12 @@ fn no_constants() {
         conflict(2, &[]),
         Step::Backtrack { literal: 2 },
     ];
-    hands_on(0, 0, clauses, steps, &[&[], &[], &[]]);
+    hands_on(0, 0, clauses, steps, &[&[], &[], &[], &[]]);
 }
 
-/// P1(x) where x is in one band, ¬P1(x) ∨ ¬P2(x) where it is in another: Propagate, Conflict and Backtrack.
-fn one_constant(first: Atom, second: Atom, numbers: &[&[i32]]) {
+/// P1(x) where x is in one band, ¬P1(x) ∨ ¬P2(x) where it is in another: Propagate, Conflict and Backtrack. Between the first two a decision
+/// brings nothing, and hands on the numbers before it.
+fn one_constant(first: Atom, second: Atom, numbers: &[&[i32]; 3]) {
     let clauses = vec![
         clause(1, vec![first], &[(true, 1, &[1])]),
         clause(1, vec![second], &[(false, 1, &[1]), (false, 2, &[1])]),
@@ -73,7 +86,7 @@ fn one_constant(first: Atom, second: Atom, numbers: &[&[i32]]) {
         conflict(2, &[1]),
         Step::Backtrack { literal: 2 },
     ];
-    hands_on(1, 1, clauses, steps, numbers);
+    hands_on(1, 1, clauses, steps, &[numbers[0], numbers[0], numbers[1], numbers[2]]);
 }
 
 #[test]
@@ -124,6 +137,20 @@ fn sixteen_at_the_ends_of_the_range() {
     }
 }
 
+/// The same by decisions that deny those atoms: one further
+#[test]
+fn sixteen_beyond_the_ends_of_the_range() {
+    let far = limits::C;
+    for (atom, constant, ends) in
+        [(at_most(1, far), 1, far + 1..=far + 16), (at_least(1, -far), 16, -far - 16..=-far - 1)]
+    {
+        let clauses = vec![clause(1, vec![atom], &[(true, 1, &[1])])];
+        let source = Source { clause: 1, number: 1, stands: false, instance: vec![constant] };
+        let numbers: Vec<i32> = ends.collect();
+        hands_on(16, 1, clauses, vec![decide_with(1, 1, &[1], vec![source])], &[&numbers]);
+    }
+}
+
 /// 2,000 steps that all hand numbers on: the trail fills, Grow empties it, and so on from 3 constants to 16. There is room for the text, and
 /// of a buffer as long the bytes past it stay; slots of ends past the first two do.
 #[test]
@@ -145,7 +172,8 @@ fn many_lines() {
     }
     steps.truncate(limits::STEPS);
     let lines = steps.iter().filter(|step| step.rule() == 1).count();
-    let file = write(&RunFile { constants: 3, arities: vec![3; 8], clauses, steps }).bytes;
+    let arities = vec![3; limits::PREDICATES];
+    let file = write(&RunFile { version: 1, constants: 3, arities, clauses, steps }).bytes;
     let run = Buffer::default().compare(&file).expect("no difference").expect("a file in order");
     assert_eq!(run.tried.len(), limits::STEPS);
     let handed: Vec<_> = run.tried.iter().filter_map(|tried| tried.numbers.as_deref()).collect();

@@ -75,7 +75,7 @@ fn spoil(random: &mut Random, constants: &mut u8, atoms: &mut Vec<Atom>) {
             return;
         }
         let above = random.within(*constants as usize + 1..=256).min(255) as u8;
-        let c = random.pick(&[limits::C, limits::C + 1, i32::MAX, i32::MIN]);
+        let c = random.pick(&[limits::C, limits::C + 1, limits::C + 2, i32::MAX, i32::MIN]);
         let index = random.below(atoms.len());
         let atom = &mut atoms[index];
         match random.below(4) {
@@ -90,6 +90,7 @@ fn spoil(random: &mut Random, constants: &mut u8, atoms: &mut Vec<Atom>) {
 #[test]
 fn same_on_random_sets() {
     let mut counts = [0; 4];
+    let mut least = [0; 2];
     let mut ends = [0, 0];
     for seed in 1..=SETS {
         let random = &mut Random::new(seed);
@@ -105,7 +106,11 @@ fn same_on_random_sets() {
             let (told, made) = (told(constants, &atoms, slots), made(constants, &atoms, slots));
             assert_eq!(told, made, "seed {seed}, {slots} slots: {constants} {atoms:?}");
             match told.0 {
-                0 | 1 => counts[told.0 as usize] += 1,
+                0 | 1 => {
+                    let has_least = atoms.iter().any(|atom| atom.c == limits::LEAST_GROUND_C);
+                    counts[told.0 as usize] += 1;
+                    least[told.0 as usize] += has_least as usize;
+                }
                 _ => counts[told.0 as usize / 256 - 1] += 1,
             }
             for number in told.1.into_iter().filter(|&number| number != BLANK) {
@@ -117,15 +122,17 @@ fn same_on_random_sets() {
         "no {}, yes {}, refused 3 {}, refused 4 {}",
         counts[0], counts[1], counts[2], counts[3]
     );
+    println!("with c -1,000,001: no {}, yes {}", least[0], least[1]);
     println!("numbers from {} to {}", ends[0], ends[1]);
     assert!(counts.iter().all(|&count| count > 500), "{counts:?}");
+    assert!(least.iter().all(|&count| count > 500), "{least:?}");
     assert!(ends[0] < -5_000_000 && ends[1] > 5_000_000, "{ends:?}");
 }
 
-/// Chains over all constants, each bound at the end of its range: b1 is −16,000,000, or b16 is 16,000,000.
+/// Chains over all constants, each bound at the end of its range: b1 is −16,000,016, or b16 is 16,000,016.
 #[test]
 fn as_far_as_numbers_come() {
-    let far = limits::C;
+    let far = -limits::LEAST_GROUND_C;
     let chain: Vec<Atom> = (1..16).map(|x| Atom { p: x, q: x + 1, c: -far }).collect();
     let down = [&chain[..], &[Atom { p: 16, q: 0, c: -far }]].concat();
     let up = [&chain[..], &[Atom { p: 0, q: 1, c: -far }]].concat();
@@ -136,7 +143,7 @@ fn as_far_as_numbers_come() {
 /// Such chains with zero anywhere in them, bounds near the end of their range, and a few more, by which some are not possible.
 #[test]
 fn same_on_long_chains() {
-    let far = limits::C;
+    let far = -limits::LEAST_GROUND_C;
     let mut counts = [0; 2];
     for seed in 1..=5_000 {
         let random = &mut Random::new(seed);
@@ -152,7 +159,8 @@ fn same_on_long_chains() {
             let first = random.below(chain.len() - 1);
             let two = &chain[first..first + 2];
             // One that goes back over a bound of the chain
-            atoms.push(Atom { p: two[1], q: two[0], c: -below(random) });
+            let c = (-below(random)).min(limits::C);
+            atoms.push(Atom { p: two[1], q: two[0], c });
         }
         random.shuffle(&mut atoms);
         let slots = constants as usize + random.below(3);

@@ -1,16 +1,17 @@
 //! Cases of merging, admission and steps, packed for `crates/rule_cases`, whose source says where everything
 //! stands. Each case is packed to the same width, so that the program has nothing to parse; what does not fit
-//! is an error.
+//! is an error. Of the atoms that a decision is to bring there is room for two, the first and one that stands in
+//! every other slot.
 
-use super::{cases, Words};
-use crate::admission::{ClauseRecord, LiteralRecord, StepRecord};
+use super::{cases, RunKind, Words};
+use crate::admission::{ClauseRecord, LiteralRecord, SourceRecord, StepRecord};
 use crate::clause::Atom;
 use crate::limits;
 
 const NAME: usize = 24;
 const ATOMS: usize = 6 * 6;
 const LITERALS: usize = 6 * 5;
-const STEPS: usize = 10 * 19;
+const STEPS: usize = 10 * 52;
 
 /// The cases one after the other.
 pub fn packed_records(text: &[u8]) -> Vec<u8> {
@@ -20,16 +21,16 @@ pub fn packed_records(text: &[u8]) -> Vec<u8> {
 fn packed(case: &str) -> Vec<u8> {
     let (name, rest) = case.split_once(' ').unwrap_or((case, ""));
     let mut words = Words::of(rest);
-    let kind = words.byte();
-    let record = match kind {
-        1 | 4 | 5 => Record::of_merging(&mut words, kind == 4),
-        _ => Record::of_run(&mut words),
+    let (kind, record) = match words.byte() {
+        kind @ (1 | 4 | 5) => (kind, Record::of_merging(&mut words, kind == 4)),
+        kind => {
+            let RunKind { version, each } = RunKind::of(kind);
+            let record = Record::of_run(&mut words, version);
+            let shown = !record.steps.is_empty();
+            assert_eq!(each, shown, "{name}: the program prints a state after each step");
+            (if each { 0 } else { 9 }, record)
+        }
     };
-    assert_eq!(
-        kind == 0,
-        !record.steps.is_empty(),
-        "{name}: the program prints a state after each step"
-    );
     [fitted(name.as_bytes(), NAME), vec![name.len() as u8, kind], record.bytes()].concat()
 }
 
@@ -39,6 +40,8 @@ struct Record {
     /// Constants, predicates and clauses.
     counts: [u8; 3],
     arities: Vec<u8>,
+    /// That of a run.
+    version: u8,
     /// Two clauses, packed. In a run the first stands at a place of the table, the second in every other.
     clauses: [Vec<u8>; 2],
     place: usize,
@@ -53,21 +56,23 @@ impl Record {
             literals: [words.byte(), words.byte()],
             counts: [0; 3],
             arities: Vec::new(),
+            version: 0,
             clauses: [first, second].map(|(clause, instance)| clause_bytes(&clause, &instance)),
             place: 0,
             steps: Vec::new(),
         }
     }
 
-    fn of_run(words: &mut Words) -> Record {
+    fn of_run(words: &mut Words, version: u16) -> Record {
         let counts = [words.byte(), words.byte(), words.byte()];
         let arities = words.bytes();
         let (place, clauses) = one_and_others(&words.clauses(), counts[2].into());
         let mut steps = Vec::new();
         while !words.at_end() {
-            steps.push(words.step());
+            steps.push(words.step(version));
         }
-        Record { literals: [0; 2], counts, arities, clauses, place, steps }
+        let version = version as u8;
+        Record { literals: [0; 2], counts, arities, version, clauses, place, steps }
     }
 
     fn bytes(&self) -> Vec<u8> {
@@ -77,6 +82,7 @@ impl Record {
             self.counts.to_vec(),
             vec![self.place as u8, self.steps.len() as u8],
             fitted(&self.arities, limits::PREDICATES),
+            vec![self.version],
             self.clauses.concat(),
             fitted(&steps, STEPS),
         ]
@@ -139,5 +145,13 @@ fn step_bytes(step: &StepRecord) -> Vec<u8> {
         step.count,
         step.instance_count,
     ];
-    [&numbers[..], &step.instance].concat()
+    let [first, others @ ..] = step.atoms.each_ref().map(source_bytes);
+    let alike = others.iter().all(|other| *other == others[0]);
+    assert!(alike, "one atom, and one in every other slot");
+    [&numbers[..], &step.instance, &[step.atom_count], &first, &others[0]].concat()
+}
+
+fn source_bytes(source: &SourceRecord) -> Vec<u8> {
+    let numbers = [source.clause, source.number, source.sign, source.instance_count];
+    [&numbers[..], &source.instance].concat()
 }

@@ -31,6 +31,30 @@ pub fn damaged(random: &mut Random, file: &RunFile) -> Vec<u8> {
     written.bytes
 }
 
+/// The file's bytes, or others, and more behind them: as many as a file may have, one more, or many more.
+pub fn stretched(random: &mut Random, mut bytes: Vec<u8>) -> Vec<u8> {
+    let most = limits::FILE_BYTES;
+    let length = match random.below(8) {
+        0 => most,
+        1..=4 => most + 1,
+        5 => random.within(most + 2..=most + 200),
+        6 => 2 * most + random.below(3),
+        _ => random.within(most + 1..=4 * most),
+    };
+    match random.below(6) {
+        // zeros alone
+        0 => bytes.clear(),
+        // another mark, or a version that there is not
+        1 => bytes.truncate(random.pick(&[0, 1, 2, 3, 3, 4, 4, 5])),
+        _ => {}
+    }
+    let zeros = random.percent(50);
+    while bytes.len() < length {
+        bytes.push(if zeros { 0 } else { random.byte() });
+    }
+    bytes
+}
+
 /// Bytes that hardly begin like a file.
 fn garbage(random: &mut Random) -> Vec<u8> {
     let begin: &[u8] =
@@ -91,10 +115,11 @@ fn odd_byte(random: &mut Random, field: Field, old: u8) -> u8 {
         Field::Predicates => limits::PREDICATES,
         Field::Arity => limits::ARITY,
         Field::Clauses => limits::INPUT_CLAUSES,
-        Field::Variables | Field::InstanceCount => limits::VARIABLES,
+        Field::Variables | Field::InstanceCount | Field::BroughtInstanceCount => limits::VARIABLES,
+        Field::BroughtCount => limits::BROUGHT,
         Field::Atoms => limits::ATOMS,
         Field::Literals | Field::Rule => limits::LITERALS,
-        Field::Sign | Field::StepSign => 1,
+        Field::Sign | Field::StepSign | Field::BroughtSign => 1,
         _ => limits::VARIABLES,
     };
     match random.below(6) {

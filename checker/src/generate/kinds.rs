@@ -1,18 +1,19 @@
 //! The kinds of run file: what the input looks like and how it is played.
 
+use super::length::file_of_length;
 use super::player::{play, Moment, Temper, Wish};
 use super::problem::{first_state, Shape};
 use crate::clause::{Atom, Clause, Literal};
-use crate::file::RunFile;
+use crate::file::{step_length, write, RunFile};
 use crate::limits;
 use crate::random::Random;
-use crate::rules::ANSWERS;
+use crate::rules::answers;
 use crate::state::State;
-use crate::step::Step;
+use crate::step::{brings_atoms, Step};
 
 /// A file as it should be.
-pub fn run_file(random: &mut Random) -> RunFile {
-    let kinds: [(usize, Kind); 18] = [
+pub fn run_file(random: &mut Random, version: u16) -> RunFile {
+    let mut kinds: Vec<(usize, Kind)> = vec![
         (120, few_constants),
         (140, many_clauses),
         (60, no_variables),
@@ -32,26 +33,44 @@ pub fn run_file(random: &mut Random) -> RunFile {
         (8, long_run),
         (2, longest),
     ];
-    let weights = kinds.map(|(weight, _)| weight);
-    kinds[random.weighted(&weights)].1(random)
+    if brings_atoms(version) {
+        kinds.extend::<[(usize, Kind); 6]>([
+            (160, sides_of_bands),
+            (120, many_brought),
+            (80, ends_of_the_range),
+            (120, atoms_that_meet),
+            (120, full_trail_of_atoms),
+            (8, as_long_as_may_be),
+        ]);
+    }
+    let weights: Vec<usize> = kinds.iter().map(|(weight, _)| *weight).collect();
+    kinds[random.weighted(&weights)].1(random, version)
 }
 
-type Kind = fn(&mut Random) -> RunFile;
+type Kind = fn(&mut Random, u16) -> RunFile;
 
 /// Plays the input of a shape.
-fn played(random: &mut Random, shape: &Shape, temper: &Temper) -> RunFile {
-    let first = first_state(random, shape);
+fn played(random: &mut Random, version: u16, shape: &Shape, temper: &Temper) -> RunFile {
+    let first = first_state(random, version, shape);
     let steps = play(random, temper, first.clone());
     file_of(first, steps)
 }
 
+/// Steps that there is no room for in a file are left out.
 fn file_of(first: State, steps: Vec<Step>) -> RunFile {
-    RunFile {
+    let mut file = RunFile {
+        version: first.version,
         constants: first.constants as u8,
         arities: first.arities,
         clauses: first.input,
         steps,
+    };
+    let mut length = write(&file).bytes.len();
+    while length > limits::FILE_BYTES {
+        let last = file.steps.pop().expect("clauses alone have room");
+        length -= step_length(&last, file.version);
     }
+    file
 }
 
 /// A shape to begin with: few constants and small clauses, mostly without atoms.
@@ -76,8 +95,8 @@ fn small() -> Shape {
 }
 
 /// A temper to begin with: up to so many steps, mostly with a wish.
-fn temper(random: &mut Random, steps: usize) -> Temper {
-    let wish = any_wish(random);
+fn temper(random: &mut Random, version: u16, steps: usize) -> Temper {
+    let wish = any_wish(random, version);
     let soon = random.percent(50);
     let (propagate, decide, conflict) =
         random.pick(&[(100, 1, 1000), (1000, 1, 20), (100, 3, 20), (4, 4, 8), (2, 8, 8)]);
@@ -88,7 +107,7 @@ fn temper(random: &mut Random, steps: usize) -> Temper {
         (50, 50, 5, 1),
         (2, 1, 1, 10),
     ]);
-    Temper {
+    let mut temper = Temper {
         steps,
         propagate,
         decide,
@@ -103,23 +122,32 @@ fn temper(random: &mut Random, steps: usize) -> Temper {
         quiet_until: 0,
         newest: random.pick(&[0, 50, 90]),
         against: random.pick(&[50, 90]),
+        brings: 0,
+        brought: 0..=0,
+        denied: 0,
         past_refutation: random.percent(50),
         wish,
         moment: Moment::Step(random.below(if soon { 25 } else { steps.max(1) })),
         behind: if random.percent(25) { random.within(1..=4) } else { 0 },
+    };
+    if brings_atoms(version) {
+        temper.brings = random.pick(&[10, 50, 90]);
+        temper.brought = random.pick(&[1..=1, 1..=2, 1..=3, 1..=8]);
+        temper.denied = random.pick(&[0, 30, 50, 100]);
     }
+    temper
 }
 
 /// Up to so many steps from any state of a run, the last of which may be refused.
 pub fn onward(random: &mut Random, state: State, steps: usize) -> Vec<Step> {
-    let temper = temper(random, steps);
+    let temper = temper(random, state.version, steps);
     play(random, &temper, state)
 }
 
 /// A rule with a number that refuses it, mostly.
-fn any_wish(random: &mut Random) -> Option<Wish> {
-    let (rule, answers) = random.pick(&ANSWERS);
-    let number = random.pick(answers);
+fn any_wish(random: &mut Random, version: u16) -> Option<Wish> {
+    let (rule, numbers) = random.pick(&answers(version));
+    let number = random.pick(numbers);
     (number != 0 && random.percent(90)).then_some((rule, number))
 }
 
@@ -149,7 +177,7 @@ fn wish_after_refutation(random: &mut Random, temper: &mut Temper) {
 }
 
 /// Few constants: many conflicts, resolutions and refutations.
-fn few_constants(random: &mut Random) -> RunFile {
+fn few_constants(random: &mut Random, version: u16) -> RunFile {
     let shape = Shape {
         clauses: random.pick(&[3..=8, 6..=16, 10..=24]),
         literals: random.pick(&[2..=2, 2..=3, 2..=4, 1..=4]),
@@ -157,14 +185,14 @@ fn few_constants(random: &mut Random) -> RunFile {
         ..small()
     };
     let steps = random.pick(&[0, 10, 60, 150, 300]);
-    let mut temper = temper(random, steps);
+    let mut temper = temper(random, version, steps);
     wish_after_refutation(random, &mut temper);
-    played(random, &shape, &temper)
+    played(random, version, &shape, &temper)
 }
 
 /// Many clauses for few ground literals: conflict after conflict, with long resolutions between, until
 /// there is a refutation.
-fn many_clauses(random: &mut Random) -> RunFile {
+fn many_clauses(random: &mut Random, version: u16) -> RunFile {
     let shape = Shape {
         constants: 1..=2,
         predicates: 4..=8,
@@ -179,10 +207,10 @@ fn many_clauses(random: &mut Random) -> RunFile {
         ..small()
     };
     let steps = random.pick(&[100, 300, 600]);
-    let mut temper = temper(random, steps);
+    let mut temper = temper(random, version, steps);
     eager(random, &mut temper);
     wish_after_refutation(random, &mut temper);
-    played(random, &shape, &temper)
+    played(random, version, &shape, &temper)
 }
 
 /// Mostly propagates before deciding, and resolves before backtracking.
@@ -197,7 +225,7 @@ fn eager(random: &mut Random, temper: &mut Temper) {
 }
 
 /// Clauses without variables; constants may be missing altogether.
-fn no_variables(random: &mut Random) -> RunFile {
+fn no_variables(random: &mut Random, version: u16) -> RunFile {
     let shape = Shape {
         constants: 0..=1,
         predicates: 2..=8,
@@ -207,14 +235,14 @@ fn no_variables(random: &mut Random) -> RunFile {
         variables: random.below(2),
         ..small()
     };
-    let mut temper = temper(random, 80);
+    let mut temper = temper(random, version, 80);
     wish_after_refutation(random, &mut temper);
-    played(random, &shape, &temper)
+    played(random, version, &shape, &temper)
 }
 
 /// Facts of the first predicates, implications from earlier predicates to later ones, and goals, which
 /// deny the last ones: long chains of propagations, and long resolutions back along them.
-fn implications(random: &mut Random) -> RunFile {
+fn implications(random: &mut Random, version: u16) -> RunFile {
     let shape = Shape {
         constants: 1..=4,
         predicates: 4..=8,
@@ -229,11 +257,11 @@ fn implications(random: &mut Random) -> RunFile {
         tight: 5,
         ..small()
     };
-    let mut first = first_state(random, &shape);
+    let mut first = first_state(random, version, &shape);
     for clause in &mut first.input {
         turn_into_implication(random, clause);
     }
-    let mut temper = temper(random, 250);
+    let mut temper = temper(random, version, 250);
     (temper.propagate, temper.decide, temper.conflict) =
         random.pick(&[(10, 0, 1), (10, 1, 4), (20, 1, 20)]);
     (temper.resolve, temper.factorize, temper.skip, temper.backtrack) =
@@ -256,7 +284,7 @@ fn turn_into_implication(random: &mut Random, clause: &mut Clause) {
 }
 
 /// Many atoms whose bounds lie close together, so that the constraint test often says no.
-fn close_bounds(random: &mut Random) -> RunFile {
+fn close_bounds(random: &mut Random, version: u16) -> RunFile {
     let shape = Shape {
         constants: 1..=5,
         literals: random.pick(&[1..=2, 1..=4]),
@@ -268,19 +296,19 @@ fn close_bounds(random: &mut Random) -> RunFile {
         repeats: 25,
         ..small()
     };
-    let mut temper = temper(random, 100);
+    let mut temper = temper(random, version, 100);
     let moment = Moment::Step(random.below(20));
     wish_for(random, 60, &[(1, 13), (3, 13), (1, 13), (3, 13), (4, 14)], moment, &mut temper);
-    played(random, &shape, &temper)
+    played(random, version, &shape, &temper)
 }
 
 /// Clauses that hold on bands of numbers, as rules on product codes do: what they say together hangs on
 /// the bands that meet.
-fn bands(random: &mut Random) -> RunFile {
+fn bands(random: &mut Random, version: u16) -> RunFile {
     let arities: Vec<u8> = (0..random.within(1..=4)).map(|_| random.within(1..=2) as u8).collect();
     let input = (0..random.within(4..=16)).map(|_| clause_on_bands(random, &arities)).collect();
-    let first = State::first(random.within(1..=4), arities, input);
-    let mut temper = temper(random, 150);
+    let first = State::first(version, random.within(1..=4), arities, input);
+    let mut temper = temper(random, version, 150);
     eager(random, &mut temper);
     temper.decide = random.pick(&[0, 1, 20]);
     let moment = Moment::Step(random.below(20));
@@ -328,14 +356,14 @@ fn clause_on_bands(random: &mut Random, arities: &[u8]) -> Clause {
 
 /// Clauses that hold from a number on or up to one, and of numbers far from each other: of the numbers behind a yes
 /// each hangs on bounds and differences of others.
-fn far_apart(random: &mut Random) -> RunFile {
+fn far_apart(random: &mut Random, version: u16) -> RunFile {
     let reach = random.pick(&[12, 300, 20_000, limits::C]);
     let arities: Vec<u8> = (0..random.within(2..=5)).map(|_| random.within(1..=3) as u8).collect();
     let clauses = random.within(8..=30);
     let input = (0..clauses).map(|_| clause_far_apart(random, &arities, reach)).collect();
     let constants = random.pick(&[1..=2, 2..=5, 2..=16, 6..=16, 16..=16]);
-    let first = State::first(random.within(constants), arities, input);
-    let mut temper = temper(random, 120);
+    let first = State::first(version, random.within(constants), arities, input);
+    let mut temper = temper(random, version, 120);
     (temper.propagate, temper.decide, temper.conflict) =
         random.pick(&[(100, 5, 10), (20, 1, 20), (10, 10, 10)]);
     temper.moment = Moment::Step(random.within(20..=100));
@@ -384,7 +412,7 @@ fn clause_far_apart(random: &mut Random, arities: &[u8], reach: i32) -> Clause {
 }
 
 /// Bounds at the ends of c's range.
-fn far_bounds(random: &mut Random) -> RunFile {
+fn far_bounds(random: &mut Random, version: u16) -> RunFile {
     let shape = Shape {
         constants: 1..=16,
         literals: 1..=3,
@@ -395,12 +423,12 @@ fn far_bounds(random: &mut Random) -> RunFile {
         tight: 5,
         ..small()
     };
-    let temper = temper(random, 100);
-    played(random, &shape, &temper)
+    let temper = temper(random, version, 100);
+    played(random, version, &shape, &temper)
 }
 
 /// Wide clauses on one or two constants: Resolve comes to the clause limits.
-fn wide_clauses(random: &mut Random) -> RunFile {
+fn wide_clauses(random: &mut Random, version: u16) -> RunFile {
     let shape = Shape {
         constants: 1..=2,
         predicates: 2..=4,
@@ -432,16 +460,16 @@ fn wide_clauses(random: &mut Random) -> RunFile {
         },
         _ => Shape { literals: 2..=8, arities: 0..=3, variables: 12, reuse: 30, ..shape },
     };
-    let mut temper = temper(random, 120);
+    let mut temper = temper(random, version, 120);
     eager(random, &mut temper);
     temper.against = 90;
     let moment = Moment::Step(random.below(25));
     wish_for(random, 50, &[(4, 18), (4, 18), (1, 12), (3, 12)], moment, &mut temper);
-    played(random, &shape, &temper)
+    played(random, version, &shape, &temper)
 }
 
 /// Two clauses that resolve on one predicate, and together come near the clause limits.
-fn two_wide_clauses(random: &mut Random) -> RunFile {
+fn two_wide_clauses(random: &mut Random, version: u16) -> RunFile {
     let shape = Shape {
         constants: 1..=2,
         predicates: 2..=3,
@@ -459,7 +487,7 @@ fn two_wide_clauses(random: &mut Random) -> RunFile {
         leaning: 100,
         ..small()
     };
-    let mut first = first_state(random, &shape);
+    let mut first = first_state(random, version, &shape);
     let arity = random.below(limits::ARITY + 1) as u8;
     first.arities.push(arity);
     let predicate = first.arities.len() as u8;
@@ -474,7 +502,7 @@ fn two_wide_clauses(random: &mut Random) -> RunFile {
         }
     }
     random.shuffle(&mut first.input);
-    let mut temper = temper(random, 60);
+    let mut temper = temper(random, version, 60);
     (temper.propagate, temper.decide, temper.conflict, temper.grow) = (100, 2, 100, 0);
     (temper.resolve, temper.factorize, temper.skip, temper.backtrack) = (100, 1, 20, 1);
     (temper.against, temper.newest) = (100, 90);
@@ -484,7 +512,7 @@ fn two_wide_clauses(random: &mut Random) -> RunFile {
 }
 
 /// Many constants and a quiet player: the trail fills up.
-fn full_trail(random: &mut Random) -> RunFile {
+fn full_trail(random: &mut Random, version: u16) -> RunFile {
     let shape = Shape {
         constants: 6..=16,
         predicates: 2..=5,
@@ -500,19 +528,19 @@ fn full_trail(random: &mut Random) -> RunFile {
         ..small()
     };
     let steps = random.within(60..=400);
-    let mut temper = temper(random, steps);
+    let mut temper = temper(random, version, steps);
     temper.propagate = random.within(1..=20);
     temper.quiet_until = random.pick(&[0, 100, 140, 155, 160]);
     temper.grow = 0;
     let wishes = [(1, 18), (1, 18), (2, 18), (1, 11), (2, 11), (1, 12), (1, 13), (1, 13), (7, 18)];
     let moment = Moment::Trail(random.pick(&[150, 155, 160, 160]));
     wish_for(random, 80, &wishes, moment, &mut temper);
-    played(random, &shape, &temper)
+    played(random, version, &shape, &temper)
 }
 
 /// A trail nearly full, then conflicts whose atoms are new: Backtrack has little room. The conflict has
 /// two literals, so that Backtrack goes back no further than to the newest decisions.
-fn full_trail_and_conflict(random: &mut Random) -> RunFile {
+fn full_trail_and_conflict(random: &mut Random, version: u16) -> RunFile {
     let arity = random.within(2..=3) as u8;
     let (p, q): (Vec<u8>, Vec<u8>) = ((1..=arity).collect(), (arity + 1..=2 * arity).collect());
     let denial = Clause {
@@ -523,9 +551,9 @@ fn full_trail_and_conflict(random: &mut Random) -> RunFile {
     // With a clause at the end that serves Decide, and Propagate in a few files.
     let served = vec![of(true, 1, &p), of(true, 1, &q)];
     let served = Clause { variables: 2 * arity, atoms: Vec::new(), literals: served };
-    let first = State::first(random.within(14..=16), vec![arity; 2], vec![denial, served]);
+    let first = State::first(version, random.within(14..=16), vec![arity; 2], vec![denial, served]);
     let steps = random.within(200..=320);
-    let mut temper = temper(random, steps);
+    let mut temper = temper(random, version, steps);
     temper.quiet_until = random.within(148..=160);
     temper.newest = 100;
     temper.against = random.pick(&[50, 100]);
@@ -545,7 +573,7 @@ fn loose_bound(random: &mut Random, variables: u8) -> Atom {
 }
 
 /// Clauses of eight literals that are false one after the other: refusal 12 at every place.
-fn eight_literals(random: &mut Random) -> RunFile {
+fn eight_literals(random: &mut Random, version: u16) -> RunFile {
     let shape = Shape {
         constants: 1..=2,
         predicates: 5..=8,
@@ -557,12 +585,12 @@ fn eight_literals(random: &mut Random) -> RunFile {
         ..small()
     };
     let steps = random.within(4..=16);
-    let mut temper = temper(random, steps);
+    let mut temper = temper(random, version, steps);
     temper.against = 100;
     (temper.propagate, temper.decide, temper.conflict, temper.grow) = (0, 1, 0, 0);
     let moment = Moment::Step(random.within(3..=12));
     wish_for(random, 90, &[(1, 12), (3, 12)], moment, &mut temper);
-    played(random, &shape, &temper)
+    played(random, version, &shape, &temper)
 }
 
 fn of(positive: bool, predicate: u8, variables: &[u8]) -> Literal {
@@ -572,7 +600,7 @@ fn of(positive: bool, predicate: u8, variables: &[u8]) -> Literal {
 }
 
 /// Nothing to refute and Backtrack at hand: learned clauses come to their limit.
-fn many_learned(random: &mut Random) -> RunFile {
+fn many_learned(random: &mut Random, version: u16) -> RunFile {
     let shape = Shape {
         constants: 4..=12,
         predicates: 2..=4,
@@ -586,7 +614,7 @@ fn many_learned(random: &mut Random) -> RunFile {
         ..small()
     };
     let steps = random.within(200..=900);
-    let mut temper = temper(random, steps);
+    let mut temper = temper(random, version, steps);
     temper.conflict = 40;
     temper.grow_when_stuck = true;
     if random.percent(25) {
@@ -594,11 +622,11 @@ fn many_learned(random: &mut Random) -> RunFile {
     }
     let moment = Moment::Learned(limits::LEARNED_CLAUSES);
     wish_for(random, 60, &[(7, 18), (7, 18), (7, 16), (7, 15)], moment, &mut temper);
-    played(random, &shape, &temper)
+    played(random, version, &shape, &temper)
 }
 
 /// A clause with one literal twice, learned again and again up to the limit, whole and factorized.
-fn same_clause_again(random: &mut Random) -> RunFile {
+fn same_clause_again(random: &mut Random, version: u16) -> RunFile {
     let arity = random.within(2..=3) as u8;
     let (p, q): (Vec<u8>, Vec<u8>) = ((1..=arity).collect(), (arity + 1..=2 * arity).collect());
     let mut denial = Clause {
@@ -607,8 +635,8 @@ fn same_clause_again(random: &mut Random) -> RunFile {
         literals: vec![of(false, 1, &p), of(false, 1, &p), of(false, 2, &q)],
     };
     random.shuffle(&mut denial.literals);
-    let first = State::first(random.within(8..=16), vec![arity; 2], vec![denial]);
-    let mut temper = temper(random, 360);
+    let first = State::first(version, random.within(8..=16), vec![arity; 2], vec![denial]);
+    let mut temper = temper(random, version, 360);
     (temper.against, temper.newest) = (100, random.pick(&[50, 90]));
     (temper.propagate, temper.decide, temper.conflict, temper.grow) = (0, 10, 40, 0);
     (temper.factorize, temper.skip, temper.backtrack) = (1, 1, 10);
@@ -620,7 +648,7 @@ fn same_clause_again(random: &mut Random) -> RunFile {
 }
 
 /// Counts at the ends of their ranges: nothing at all, or as much as there may be.
-fn odd_corners(random: &mut Random) -> RunFile {
+fn odd_corners(random: &mut Random, version: u16) -> RunFile {
     let shape = Shape {
         constants: random.pick(&[0..=0, 1..=1, 16..=16, 0..=16]),
         predicates: random.pick(&[0..=0, 1..=1, 8..=8]),
@@ -634,13 +662,13 @@ fn odd_corners(random: &mut Random) -> RunFile {
         ..small()
     };
     let steps = random.pick(&[0, 1, 3, 40, 120]);
-    let mut temper = temper(random, steps);
+    let mut temper = temper(random, version, steps);
     temper.grow = random.within(1..=3);
-    played(random, &shape, &temper)
+    played(random, version, &shape, &temper)
 }
 
 /// As many steps as a file may have: the trail fills, Grow empties it, and so on.
-fn long_run(random: &mut Random) -> RunFile {
+fn long_run(random: &mut Random, version: u16) -> RunFile {
     let shape = Shape {
         constants: 1..=2,
         predicates: 8..=8,
@@ -653,16 +681,16 @@ fn long_run(random: &mut Random) -> RunFile {
         satisfiable: true,
         ..small()
     };
-    let mut temper = temper(random, limits::STEPS);
+    let mut temper = temper(random, version, limits::STEPS);
     (temper.propagate, temper.decide, temper.conflict, temper.grow) = (3, 20, 1, 0);
     (temper.resolve, temper.factorize, temper.skip, temper.backtrack) = (1, 1, 8, 2);
     (temper.grow_when_stuck, temper.grow_most) = (true, 1);
     temper.wish = None;
-    played(random, &shape, &temper)
+    played(random, version, &shape, &temper)
 }
 
 /// The longest file there is: every clause full, every step a Decide of twelve variables.
-fn longest(random: &mut Random) -> RunFile {
+fn longest(random: &mut Random, version: u16) -> RunFile {
     let shape = Shape {
         constants: 1..=16,
         predicates: 8..=8,
@@ -675,9 +703,9 @@ fn longest(random: &mut Random) -> RunFile {
         without_atoms: 0,
         ..small()
     };
-    let first = first_state(random, &shape);
+    let first = first_state(random, version, &shape);
     let decisions = random.pick(&[10, 100, 160]);
-    let mut temper = temper(random, decisions);
+    let mut temper = temper(random, version, decisions);
     (temper.propagate, temper.decide, temper.conflict, temper.grow) = (0, 1, 0, 0);
     temper.grow_when_stuck = false;
     temper.wish = None;
@@ -694,5 +722,174 @@ fn decide_of_twelve(random: &mut Random, constants: usize) -> Step {
         literal: random.within(1..=limits::LITERALS) as u8,
         positive: random.percent(50),
         instance: (0..limits::VARIABLES).map(|_| random.within(1..=constants) as u8).collect(),
+        atoms: Vec::new(),
     }
+}
+
+// Kinds of version 2
+
+/// The reasons against a decision, those of its atoms among them.
+const AGAINST_DECIDE: [Wish; 8] =
+    [(2, 10), (2, 10), (2, 11), (2, 11), (2, 13), (2, 13), (2, 13), (2, 18)];
+
+/// Clauses that hold on bands, and decisions that say on which side of a band a number lies: what can be propagated
+/// and what conflicts hangs on the sides.
+fn sides_of_bands(random: &mut Random, version: u16) -> RunFile {
+    let arities: Vec<u8> = (0..random.within(1..=4)).map(|_| random.within(1..=2) as u8).collect();
+    let input = (0..random.within(4..=16)).map(|_| clause_on_bands(random, &arities)).collect();
+    let first = State::first(version, random.within(1..=5), arities, input);
+    let mut temper = temper(random, version, 200);
+    (temper.propagate, temper.decide, temper.conflict) =
+        random.pick(&[(20, 20, 100), (5, 20, 50), (100, 20, 100), (1, 1, 10)]);
+    temper.brings = random.pick(&[80, 100]);
+    temper.brought = random.pick(&[1..=1, 1..=2, 1..=4, 2..=8]);
+    let wishes = [&AGAINST_DECIDE[..], &[(1, 13), (3, 13), (6, 15), (7, 16)]].concat();
+    let moment = Moment::Step(random.below(60));
+    wish_for(random, 70, &wishes, moment, &mut temper);
+    let steps = play(random, &temper, first.clone());
+    file_of(first, steps)
+}
+
+/// Clauses of many atoms, and decisions that bring up to as many as they may.
+fn many_brought(random: &mut Random, version: u16) -> RunFile {
+    let shape = Shape {
+        constants: random.pick(&[1..=4, 4..=16, 12..=16]),
+        predicates: 2..=5,
+        arities: 1..=3,
+        literals: random.pick(&[1..=2, 1..=3]),
+        atoms: random.pick(&[8..=24, 20..=24]),
+        variables: random.within(4..=limits::VARIABLES),
+        without_atoms: 10,
+        differences: random.pick(&[0, 20, 40]),
+        reach: random.pick(&[30, 5_000]),
+        tight: random.pick(&[0, 10, 40]),
+        satisfiable: random.percent(50),
+        ..small()
+    };
+    let mut temper = temper(random, version, 150);
+    (temper.propagate, temper.decide, temper.conflict) =
+        random.pick(&[(1, 10, 20), (0, 10, 5), (10, 10, 40)]);
+    temper.grow_when_stuck = random.percent(50);
+    temper.brings = random.pick(&[60, 100]);
+    temper.brought = random.pick(&[4..=24, 20..=24, 24..=24]);
+    let moment = Moment::Step(random.below(20));
+    wish_for(random, 60, &AGAINST_DECIDE, moment, &mut temper);
+    played(random, version, &shape, &temper)
+}
+
+/// Atoms at the ends of c's range, brought as they stand and denied.
+fn ends_of_the_range(random: &mut Random, version: u16) -> RunFile {
+    let arities: Vec<u8> = (0..random.within(1..=4)).map(|_| random.within(1..=2) as u8).collect();
+    let input = (0..random.within(2..=12)).map(|_| clause_at_ends(random, &arities)).collect();
+    let constants = random.pick(&[1..=2, 2..=5, 6..=16, 16..=16]);
+    let first = State::first(version, random.within(constants), arities, input);
+    let mut temper = temper(random, version, 120);
+    (temper.propagate, temper.decide, temper.conflict) =
+        random.pick(&[(1, 10, 10), (10, 10, 10), (10, 3, 20)]);
+    temper.brings = 100;
+    temper.denied = random.pick(&[30, 50, 70]);
+    let moment = Moment::Step(random.below(30));
+    wish_for(random, 50, &AGAINST_DECIDE, moment, &mut temper);
+    let steps = play(random, &temper, first.clone());
+    file_of(first, steps)
+}
+
+/// A clause whose variables are bounded on one side or on both, at the ends of the range or next to them, some of them at
+/// such a distance from each other.
+fn clause_at_ends(random: &mut Random, arities: &[u8]) -> Clause {
+    let mut clause = clause_of_literals(random, arities);
+    let end = |random: &mut Random| {
+        let near = random.pick(&[0, 0, 0, 1, 2]);
+        random.pick(&[limits::C - near, near - limits::C])
+    };
+    for variable in 1..=clause.variables {
+        let [above, below] = [end(random), end(random)];
+        let above = Atom { p: variable, q: 0, c: above };
+        let below = Atom { p: 0, q: variable, c: below };
+        match random.below(if clause.occurs(variable) { 4 } else { 3 }) {
+            0 => clause.atoms.push(above),
+            1 => clause.atoms.push(below),
+            2 => clause.atoms.extend([above, below]),
+            _ => {}
+        }
+    }
+    for variable in 2..=clause.variables {
+        let bounded = |variable: u8| {
+            clause.atoms.iter().any(|atom| atom.bounds_above(variable))
+                && clause.atoms.iter().any(|atom| atom.bounds_below(variable))
+        };
+        if bounded(variable) && bounded(variable - 1) {
+            let (p, q) = random.pick(&[(variable, variable - 1), (variable - 1, variable)]);
+            clause.atoms.push(Atom { p, q, c: end(random) });
+        }
+    }
+    random.shuffle(&mut clause.atoms);
+    clause
+}
+
+/// Few different atoms and their denials, in clauses and on the trail: what a decision names is often there already.
+fn atoms_that_meet(random: &mut Random, version: u16) -> RunFile {
+    let arities: Vec<u8> = (0..random.within(2..=4)).map(|_| random.within(1..=2) as u8).collect();
+    let ends: Vec<i32> = (0..random.within(1..=3)).map(|_| random.whole(-4..=4)).collect();
+    let mut input = Vec::new();
+    for _ in 0..random.within(3..=10) {
+        let mut clause = clause_of_literals(random, &arities);
+        for variable in 1..=clause.variables {
+            let above = Atom { p: variable, q: 0, c: random.pick(&ends) };
+            match random.below(3) {
+                0 => clause.atoms.push(above),
+                1 => clause.atoms.push(above.denial()),
+                _ => {}
+            }
+        }
+        if !clause.every_variable_occurs() {
+            continue;
+        }
+        input.push(clause);
+    }
+    let first = State::first(version, random.within(1..=4), arities, input);
+    let mut temper = temper(random, version, 80);
+    (temper.propagate, temper.decide, temper.conflict) =
+        random.pick(&[(10, 10, 10), (2, 10, 20), (20, 10, 1)]);
+    temper.brings = random.pick(&[60, 100]);
+    let moment = Moment::Step(random.below(25));
+    wish_for(random, 80, &AGAINST_DECIDE, moment, &mut temper);
+    let steps = play(random, &temper, first.clone());
+    file_of(first, steps)
+}
+
+/// Many constants, and decisions with many atoms: the trail fills up by them, and little room is left.
+fn full_trail_of_atoms(random: &mut Random, version: u16) -> RunFile {
+    let shape = Shape {
+        constants: 6..=16,
+        predicates: 2..=5,
+        arities: 1..=3,
+        literals: 1..=3,
+        atoms: random.pick(&[1..=6, 6..=24]),
+        variables: 8,
+        without_atoms: 10,
+        differences: random.pick(&[0, 20]),
+        reach: random.pick(&[60, 5_000]),
+        tight: random.pick(&[0, 10]),
+        satisfiable: true,
+        ..small()
+    };
+    let mut temper = temper(random, version, 300);
+    (temper.propagate, temper.decide, temper.grow) = (random.pick(&[0, 1, 10]), 10, 0);
+    temper.quiet_until = random.pick(&[100, 140, 160, 160]);
+    temper.brings = random.pick(&[80, 100]);
+    temper.brought = random.pick(&[1..=4, 1..=24, 16..=24]);
+    let room = [(2, 18), (2, 18), (2, 18), (1, 18), (7, 18)];
+    let wishes = [&AGAINST_DECIDE[..], &room].concat();
+    let moment = Moment::Trail(random.pick(&[130, 137, 150, 158, 159, 160, 160]));
+    wish_for(random, 90, &wishes, moment, &mut temper);
+    played(random, version, &shape, &temper)
+}
+
+/// As many bytes as a file may have, or a few more; all steps are accepted where it is not too long.
+fn as_long_as_may_be(random: &mut Random, _: u16) -> RunFile {
+    let most = limits::FILE_BYTES;
+    let length =
+        random.pick(&[most, most, most, most - 1, most + 1, most + 1, most + 2, most + 40]);
+    file_of_length(random, length).expect("a file of that length")
 }

@@ -1,13 +1,14 @@
 //! A random player: takes mostly applicable steps, and ends a run with a wish, a step that is to be
 //! refused by a certain number.
 
-use crate::clause::{Clause, Closure, Literal};
+use crate::clause::{Atom, Clause, Closure, Literal};
 use crate::constraint;
 use crate::limits;
 use crate::random::Random;
-use crate::rules::ANSWERS;
+use crate::rules::answers;
 use crate::state::{Entry, State};
-use crate::step::Step;
+use crate::step::{brings_atoms, Source, Step};
+use std::ops::RangeInclusive;
 
 /// A rule and the number by which a step of it is to be refused.
 pub type Wish = (u8, u8);
@@ -48,6 +49,12 @@ pub struct Temper {
     pub newest: usize,
     /// How often, of a hundred, Decide takes the sign that makes the clause's literal false.
     pub against: usize,
+    /// How often, of a hundred, Decide brings atoms, in a version in which it may.
+    pub brings: usize,
+    /// So many of them, as far as there are such.
+    pub brought: RangeInclusive<usize>,
+    /// How often, of a hundred, an atom is denied.
+    pub denied: usize,
     /// Whether the run goes on after a refutation.
     pub past_refutation: bool,
     pub wish: Option<Wish>,
@@ -62,6 +69,8 @@ type Partial = [u8; limits::VARIABLES];
 
 /// How many trail literals are looked at for one instance, at most.
 const PATIENCE: usize = 600;
+/// How many clauses or atoms are looked at for one atom that a decision is to bring, at most.
+const LOOKS: usize = 4;
 
 pub struct Player<'a> {
     random: &'a mut Random,
@@ -74,8 +83,7 @@ pub struct Player<'a> {
 
 /// Plays from a state; the steps, the last of which may be refused.
 pub fn play(random: &mut Random, temper: &Temper, state: State) -> Vec<Step> {
-    let on_trail = literals_on(&state);
-    let mut player = Player { random, temper, state, on_trail, steps: Vec::new() };
+    let mut player = Player::new(random, temper, state);
     player.play();
     player.steps
 }
@@ -84,24 +92,41 @@ fn literals_on(state: &State) -> Vec<Literal> {
     state.trail.iter().filter_map(Entry::literal).copied().collect()
 }
 
-impl Player<'_> {
+impl<'a> Player<'a> {
+    pub fn new(random: &'a mut Random, temper: &'a Temper, state: State) -> Player<'a> {
+        let on_trail = literals_on(&state);
+        Player { random, temper, state, on_trail, steps: Vec::new() }
+    }
+
     fn play(&mut self) {
         while self.steps.len() < self.temper.steps {
             if let Some(step) = self.wish() {
                 return self.end_with(step);
             }
             let Some(step) = self.applicable() else { return self.end_stuck() };
-            self.state.take(&step).expect("the step is applicable");
-            self.steps.push(step);
-            self.on_trail = literals_on(&self.state);
+            self.take(step);
         }
+    }
+
+    pub fn take(&mut self, step: Step) {
+        self.state.take(&step).expect("the step is applicable");
+        self.steps.push(step);
+        self.on_trail = literals_on(&self.state);
+    }
+
+    pub fn state(&self) -> &State {
+        &self.state
+    }
+
+    pub fn into_steps(self) -> Vec<Step> {
+        self.steps
     }
 
     /// Where nothing applies, a run with a wish ends with some refused step.
     fn end_stuck(&mut self) {
         for _ in 0..10 {
-            let (rule, answers) = self.random.pick(&ANSWERS);
-            let number = self.random.pick(answers);
+            let (rule, numbers) = self.random.pick(&answers(self.state.version));
+            let number = self.random.pick(numbers);
             let granted = if number == 0 { None } else { self.grant(rule, number) };
             if let Some(step) = granted.filter(|_| self.temper.wish.is_some()) {
                 return self.end_with(step);
@@ -186,15 +211,29 @@ impl Player<'_> {
         None
     }
 
-    fn find_decide(&mut self) -> Option<Step> {
+    pub fn find_decide(&mut self) -> Option<Step> {
         for _ in 0..40 {
-            let mut step = self.plausible(2);
+            let mut step = self.plausible_alone(2);
             self.turn_against(&mut step);
             if self.applies(&step) {
+                self.bring(&mut step);
                 return Some(step);
             }
         }
         None
+    }
+
+    /// Has a decision that applies bring atoms, as the temper says.
+    fn bring(&mut self, step: &mut Step) {
+        if !brings_atoms(self.state.version) || !self.random.percent(self.temper.brings) {
+            return;
+        }
+        let room = limits::TRAIL - self.state.trail.len() - 1;
+        let count = self.random.within(self.temper.brought.clone());
+        let ready = self.atoms_made_ready(count.min(room));
+        if let Step::Decide { atoms, .. } = step {
+            *atoms = ready;
+        }
     }
 
     fn turn_against(&mut self, step: &mut Step) {
@@ -360,10 +399,174 @@ impl Player<'_> {
         None
     }
 
+    // Atoms for decisions to bring
+
+    fn atoms_on_trail(&self) -> Vec<Atom> {
+        self.state.trail.iter().filter_map(Entry::atom).copied().collect()
+    }
+
+    /// The number of a clause that has atoms, if there is one.
+    fn clause_with_atoms(&mut self) -> Option<u8> {
+        let has_atoms = |state: &State, number: u8| {
+            state.clause(number).is_some_and(|held| !held.atoms.is_empty())
+        };
+        for _ in 0..LOOKS {
+            let number = self.clause_number();
+            if has_atoms(&self.state, number) {
+                return Some(number);
+            }
+        }
+        let mut numbers: Vec<u8> = (1..=self.state.clauses() as u8).collect();
+        numbers.retain(|&number| has_atoms(&self.state, number));
+        (!numbers.is_empty()).then(|| self.random.pick(&numbers))
+    }
+
+    /// The source of an atom that there is.
+    fn any_source(&mut self) -> Option<Source> {
+        let clause = self.clause_with_atoms()?;
+        let held = self.clause(clause)?;
+        Some(Source {
+            clause,
+            number: self.random.within(1..=held.atoms.len()) as u8,
+            stands: !self.random.percent(self.temper.denied),
+            instance: self.instance(held.variables),
+        })
+    }
+
+    /// Up to so many sources of atoms that may be brought together. One that is not possible is denied instead.
+    fn atoms_made_ready(&mut self, count: usize) -> Vec<Source> {
+        let mut atoms = self.atoms_on_trail();
+        let mut ready = Vec::new();
+        for _ in 0..LOOKS * count {
+            if ready.len() == count {
+                break;
+            }
+            let Some(mut source) = self.any_source() else { break };
+            let Ok(mut atom) = self.state.demand_atom(&source) else { continue };
+            if is_defined(&atoms, &atom) {
+                continue;
+            }
+            if !constraint::possible(self.state.constants, &[&atoms[..], &[atom]].concat()) {
+                (atom, source.stands) = (atom.denial(), !source.stands);
+            }
+            atoms.push(atom);
+            ready.push(source);
+        }
+        ready
+    }
+
+    /// A source of a ground atom, if some clause has it or its denial.
+    fn source_of(&mut self, wanted: &Atom) -> Option<Source> {
+        let clauses = self.state.clauses();
+        let first = self.random.below(clauses.max(1));
+        for index in 0..clauses {
+            let clause = ((first + index) % clauses) as u8 + 1;
+            let held = self.clause(clause)?;
+            for (index, atom) in held.atoms.iter().enumerate() {
+                let number = index as u8 + 1;
+                for (stands, wanted) in [(true, *wanted), (false, wanted.denial())] {
+                    let Some(partial) = matched_atom(atom, &wanted) else { continue };
+                    let instance = self.complete(partial, held.variables);
+                    return Some(Source { clause, number, stands, instance });
+                }
+            }
+        }
+        None
+    }
+
+    /// Sources of any atoms, mostly of none.
+    fn plausible_atoms(&mut self) -> Vec<Source> {
+        if !brings_atoms(self.state.version) || self.random.percent(60) {
+            return Vec::new();
+        }
+        let count = self.random.pick(&[1, 1, 2, 3, limits::BROUGHT]);
+        (0..count).filter_map(|_| self.any_source()).collect()
+    }
+
+    /// A decision whose literal is undefined, and nothing but a full trail against it.
+    fn undefined_literal(&mut self) -> Option<Step> {
+        for _ in 0..12 {
+            let step = self.plausible_alone(2);
+            if self.state.judge(&step).map_or_else(|refusal| refusal.number == 18, |_| true) {
+                return Some(step);
+            }
+        }
+        None
+    }
+
+    /// A decision that brings these atoms, in any order.
+    fn decide_with(&mut self, mut named: Vec<Source>) -> Option<Step> {
+        named.truncate(limits::BROUGHT);
+        self.random.shuffle(&mut named);
+        let mut step = self.undefined_literal()?;
+        if let Step::Decide { atoms, .. } = &mut step {
+            *atoms = named;
+        }
+        Some(step)
+    }
+
+    /// A decision that brings an atom which it, or its denial, is on the trail or brought before it; others beside it.
+    fn brings_defined(&mut self) -> Option<Step> {
+        let others = self.random.below(4);
+        let mut named = self.atoms_made_ready(others);
+        let on_trail = self.atoms_on_trail();
+        let again = if on_trail.is_empty() || self.random.percent(40) {
+            let source = self.any_source()?;
+            named.push(source.clone());
+            self.state.demand_atom(&source).ok()?
+        } else {
+            self.random.pick(&on_trail)
+        };
+        let wanted = if self.random.percent(50) { again } else { again.denial() };
+        let source = self.source_of(&wanted)?;
+        named.push(source);
+        self.decide_with(named)
+    }
+
+    /// A decision that brings atoms which are not possible together with the trail's, or with each other.
+    fn brings_impossible(&mut self) -> Option<Step> {
+        let others = self.random.below(3);
+        let mut named = self.atoms_made_ready(others);
+        for _ in 0..40 {
+            let source = self.any_source()?;
+            named.push(source);
+            let atoms: Result<Vec<Atom>, _> =
+                named.iter().map(|source| self.state.demand_atom(source)).collect();
+            let all = [self.atoms_on_trail(), atoms.ok()?].concat();
+            let defined = (0..all.len()).any(|index| is_defined(&all[..index], &all[index]));
+            if defined || named.len() == limits::BROUGHT {
+                named.pop();
+            } else if !constraint::possible(self.state.constants, &all) {
+                return self.decide_with(named);
+            } else if self.random.percent(60) {
+                named.pop();
+            }
+        }
+        None
+    }
+
+    /// A decision that brings more atoms than there is room for.
+    fn brings_too_many(&mut self) -> Option<Step> {
+        let room = limits::TRAIL - self.state.trail.len();
+        let most = limits::BROUGHT;
+        let count = if self.random.percent(60) { room } else { self.random.within(0..=most) };
+        let named = self.atoms_made_ready(count.min(most));
+        self.decide_with(named)
+    }
+
     // Steps that name what is there, without regard to what applies
 
     /// A step of the rule whose clause, literals and instance exist where there are any.
     fn plausible(&mut self, rule: u8) -> Step {
+        let mut step = self.plausible_alone(rule);
+        if let Step::Decide { atoms, .. } = &mut step {
+            *atoms = self.plausible_atoms();
+        }
+        step
+    }
+
+    /// The same; a decision brings no atoms.
+    fn plausible_alone(&mut self, rule: u8) -> Step {
         let number = self.clause_number();
         let clause = self.clause(number);
         let literals = clause.as_ref().map_or(0, |clause| clause.literals.len());
@@ -376,7 +579,7 @@ impl Player<'_> {
             2 => {
                 let positive = self.random.percent(50);
                 let instance = self.instance(variables);
-                Step::Decide { clause: number, literal, positive, instance }
+                Step::Decide { clause: number, literal, positive, instance, atoms: Vec::new() }
             }
             3 => Step::Conflict { clause: number, instance: self.instance(variables) },
             4 => Step::Resolve { literal: of_conflict() },
@@ -427,6 +630,14 @@ impl Player<'_> {
         if self.random.percent(any) {
             return Some(self.plausible(rule));
         }
+        if rule == 2 && brings_atoms(self.state.version) && self.random.percent(70) {
+            match number {
+                11 => return self.brings_defined(),
+                13 => return self.brings_impossible(),
+                18 => return self.brings_too_many(),
+                _ => {}
+            }
+        }
         match (rule, number) {
             (_, 10) => Some(self.faulty(rule)),
             (_, 9) if self.random.percent(30) => Some(self.faulty(rule)),
@@ -462,6 +673,10 @@ impl Player<'_> {
     fn faulty(&mut self, rule: u8) -> Step {
         let mut step = self.plausible(rule);
         match &mut step {
+            Step::Decide { atoms, .. } if !atoms.is_empty() && self.random.percent(80) => {
+                let index = self.random.below(atoms.len());
+                self.spoil_source(&mut atoms[index]);
+            }
             Step::Propagate { clause, literal, instance }
             | Step::Decide { clause, literal, instance, .. } => match self.random.below(3) {
                 0 => *clause = self.no_such(self.state.clauses()),
@@ -484,6 +699,17 @@ impl Player<'_> {
             Step::Grow { count } => *count = 0,
         }
         step
+    }
+
+    fn spoil_source(&mut self, source: &mut Source) {
+        match self.random.below(3) {
+            0 => source.clause = self.no_such(self.state.clauses()),
+            1 => {
+                let atoms = self.state.clause(source.clause).map_or(0, |held| held.atoms.len());
+                source.number = self.no_such(atoms);
+            }
+            _ => self.spoil(&mut source.instance),
+        }
     }
 
     /// 0 or a number above the last one.
@@ -541,6 +767,7 @@ impl Player<'_> {
                 literal,
                 positive: self.random.percent(50),
                 instance,
+                atoms: self.plausible_atoms(),
             },
         })
     }
@@ -570,6 +797,30 @@ impl Player<'_> {
         let literals = |number: &u8| self.state.clause(*number).map_or(0, |c| c.literals.len());
         numbers.into_iter().max_by_key(literals).unwrap_or(1)
     }
+}
+
+/// Whether an atom or its denial is among some.
+fn is_defined(atoms: &[Atom], atom: &Atom) -> bool {
+    atoms.contains(atom) || atoms.contains(&atom.denial())
+}
+
+/// The instance that makes the atom the ground one wanted, if that can be.
+fn matched_atom(atom: &Atom, wanted: &Atom) -> Option<Partial> {
+    let mut partial = Partial::default();
+    for (variable, constant) in [(atom.p, wanted.p), (atom.q, wanted.q)] {
+        if variable == 0 {
+            if constant != 0 {
+                return None;
+            }
+            continue;
+        }
+        let slot = &mut partial[variable as usize - 1];
+        if constant == 0 || (*slot != 0 && *slot != constant) {
+            return None;
+        }
+        *slot = constant;
+    }
+    (atom.c == wanted.c).then_some(partial)
 }
 
 /// The literal's instance, if all its variables have a constant.

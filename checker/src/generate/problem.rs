@@ -35,8 +35,8 @@ pub struct Shape {
     pub satisfiable: bool,
 }
 
-/// The first state over random input of that shape.
-pub fn first_state(random: &mut Random, shape: &Shape) -> State {
+/// The first state of that version over random input of that shape.
+pub fn first_state(random: &mut Random, version: u16, shape: &Shape) -> State {
     let constants = random.within(shape.constants.clone());
     let predicates = random.within(shape.predicates.clone());
     let arities: Vec<u8> =
@@ -45,7 +45,7 @@ pub fn first_state(random: &mut Random, shape: &Shape) -> State {
     let reading: Vec<bool> = (0..predicates).map(|_| random.percent(50)).collect();
     let clauses = random.within(shape.clauses.clone());
     let input = (0..clauses).map(|_| clause(random, shape, &arities, &reading)).collect();
-    State::first(constants, arities, input)
+    State::first(version, constants, arities, input)
 }
 
 fn clause(random: &mut Random, shape: &Shape, arities: &[u8], reading: &[bool]) -> Clause {

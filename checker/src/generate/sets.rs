@@ -23,7 +23,8 @@ pub fn random_set(seed: u64) -> (usize, Vec<Atom>) {
             c -= slack + random.whole(1..=fault);
         }
         // A bound that is cut off at the ends of c's range is another one; it is true where it is no fault.
-        atoms.push(Atom { p: p as u8, q: q as u8, c: c.clamp(-limits::C, limits::C) });
+        let c = c.clamp(limits::LEAST_GROUND_C, limits::C);
+        atoms.push(Atom { p: p as u8, q: q as u8, c });
     }
     random.shuffle(&mut atoms);
     (constants, atoms)

@@ -5,7 +5,7 @@ use checker::clause::{Atom, Clause, Literal};
 use checker::constraint::Numbers;
 use checker::refusal::Refusal;
 use checker::state::State;
-use checker::step::Step;
+use checker::step::{Source, Step};
 
 /// The paper's example: "Input, 47 bytes, one constant, P of arity 1, x ≤ 10 ∥ P(x) and
 /// x ≥ 3 ∥ ¬P(x)".
@@ -45,8 +45,14 @@ pub fn clause(variables: u8, atoms: &[Atom], literals: &[Literal]) -> Clause {
     Clause { variables, atoms: atoms.to_vec(), literals: literals.to_vec() }
 }
 
+/// A first state of version 1
 pub fn state(constants: usize, arities: &[u8], input: &[Clause]) -> State {
-    State::first(constants, arities.to_vec(), input.to_vec())
+    State::first(1, constants, arities.to_vec(), input.to_vec())
+}
+
+/// A first state of version 2
+pub fn state_2(constants: usize, arities: &[u8], input: &[Clause]) -> State {
+    State::first(2, constants, arities.to_vec(), input.to_vec())
 }
 
 pub fn propagate(clause: u8, literal: u8, instance: &[u8]) -> Step {
@@ -54,7 +60,29 @@ pub fn propagate(clause: u8, literal: u8, instance: &[u8]) -> Step {
 }
 
 pub fn decide(clause: u8, literal: u8, positive: bool, instance: &[u8]) -> Step {
-    Step::Decide { clause, literal, positive, instance: instance.to_vec() }
+    decide_with(clause, literal, positive, instance, &[])
+}
+
+/// A decision that brings atoms
+pub fn decide_with(
+    clause: u8,
+    literal: u8,
+    positive: bool,
+    instance: &[u8],
+    atoms: &[Source],
+) -> Step {
+    let (instance, atoms) = (instance.to_vec(), atoms.to_vec());
+    Step::Decide { clause, literal, positive, instance, atoms }
+}
+
+/// An atom of a clause as it stands
+pub fn stands(clause: u8, number: u8, instance: &[u8]) -> Source {
+    Source { clause, number, stands: true, instance: instance.to_vec() }
+}
+
+/// An atom of a clause denied
+pub fn denied(clause: u8, number: u8, instance: &[u8]) -> Source {
+    Source { clause, number, stands: false, instance: instance.to_vec() }
 }
 
 pub fn conflict(clause: u8, instance: &[u8]) -> Step {

@@ -9,7 +9,8 @@
 //! What can't be told from noise is printed as below the resolution: where the middle half of the rounds reaches zero, or the median is not
 //! above twice what a file differs from its own copy, at the far end of the middle half. There is no ratio then.
 
-use checker::generate::generate;
+use checker::file::VERSIONS;
+use checker::generate::generate_version;
 use checker::listing::{listing, run};
 use compare::steps;
 use compare::steps::Near;
@@ -160,10 +161,13 @@ fn whole_files(name: &str, files: &[Vec<u8>]) {
 
 fn main() {
     println!("whole files, ratios");
-    let (good, bad): (Vec<_>, Vec<_>) =
-        (1..=FILES).map(generate).partition(|file| run(file).is_ok());
-    whole_files("files with steps", &good);
-    whole_files("bad files", &bad);
+    for version in VERSIONS {
+        let (good, bad): (Vec<_>, Vec<_>) = (1..=FILES)
+            .map(|seed| generate_version(version, seed))
+            .partition(|file| run(file).is_ok());
+        whole_files(&format!("files with steps of version {version}"), &good);
+        whole_files(&format!("bad files of version {version}"), &bad);
+    }
     let heads = ["single steps", "steps", "ours ns", "checker ns", "ratio"];
     println!("{:<50} {:>5} {:>24} {:>24} {:>22}", heads[0], heads[1], heads[2], heads[3], heads[4]);
     steps::all().iter().for_each(single_step);

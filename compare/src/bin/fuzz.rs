@@ -5,7 +5,8 @@
 //!        fuzz alone SECONDS   changes files at random and keeps those to go on from that the checker counts something new of
 
 use checker::coverage::Coverage;
-use checker::generate::generate;
+use checker::file::VERSIONS;
+use checker::generate::generate_version;
 use checker::listing::run;
 use checker::random::Random;
 use compare::beside::{Buffer, Seen};
@@ -18,7 +19,8 @@ use std::process::ExitCode;
 use std::time::{Duration, Instant, SystemTime, UNIX_EPOCH};
 
 const EXAMPLES: &str = concat!(env!("CARGO_MANIFEST_DIR"), "/../examples");
-/// Of so many generated files, at most, those are taken that are no longer than that and come to a pair of rule and answer that none before came to.
+/// Of so many generated files of each version, at most, those are taken that are no longer than that and come to a pair of rule and answer that
+/// none before of that version came to.
 const GENERATED: u64 = 4_000;
 const LENGTH: usize = 1_500;
 const PAUSE: Duration = Duration::from_secs(10);
@@ -44,27 +46,28 @@ fn usage() -> io::Result<ExitCode> {
 
 /// The files to begin with, each with a name
 fn seeds() -> io::Result<Vec<(String, Vec<u8>)>> {
-    let (mut seeds, mut seen) = (Vec::new(), Seen::default());
+    let mut seeds = Vec::new();
     for entry in fs::read_dir(EXAMPLES)? {
         let entry = entry?;
         let name = entry.file_name().to_string_lossy().into_owned();
         // Beside each run file stands its text.
         if name.ends_with(".drf") {
-            let file = fs::read(entry.path())?;
-            seen.note(&run(&file));
-            seeds.push((name, file));
+            seeds.push((name, fs::read(entry.path())?));
         }
     }
-    for seed in 1..=GENERATED {
-        let unseen = seen.unseen().len();
-        if unseen == 0 {
-            break;
-        }
-        let file = generate(seed);
-        if file.len() <= LENGTH {
-            seen.note(&run(&file));
-            if seen.unseen().len() < unseen {
-                seeds.push((format!("{seed}.drf"), file));
+    for version in VERSIONS {
+        let mut seen = Seen::default();
+        for seed in 1..=GENERATED {
+            let unseen = seen.unseen(version).len();
+            if unseen == 0 {
+                break;
+            }
+            let file = generate_version(version, seed);
+            if file.len() <= LENGTH {
+                seen.note(&run(&file));
+                if seen.unseen(version).len() < unseen {
+                    seeds.push((format!("{seed}-{version}.drf"), file));
+                }
             }
         }
     }
@@ -81,8 +84,14 @@ fn write_seeds(folder: &Path) -> io::Result<ExitCode> {
 
 fn print_seen(seen: &Seen) {
     println!("fuzz: {}", seen.pairs());
-    if !seen.unseen().is_empty() {
-        println!("fuzz: not reached: {}", seen.unseen().join(", "));
+    let unseen: Vec<String> = VERSIONS
+        .iter()
+        .flat_map(|&version| {
+            seen.unseen(version).into_iter().map(move |pair| format!("version {version} {pair}"))
+        })
+        .collect();
+    if !unseen.is_empty() {
+        println!("fuzz: not reached: {}", unseen.join(", "));
     }
 }
 
@@ -103,7 +112,8 @@ fn alone(time: Duration) -> io::Result<ExitCode> {
     println!("fuzz: random numbers from {number}");
     let mut random = Random::new(number);
     let (hand, mut buffer) = (Hand::of(0)?, Buffer::default());
-    let (mut seen, mut coverage) = (Seen::default(), Coverage::default());
+    // What files of version 1 can come to those of version 2 can too.
+    let (mut seen, mut coverage) = (Seen::default(), Coverage::of(2));
     let mut corpus: Vec<Vec<u8>> = seeds()?.into_iter().map(|(_, file)| file).collect();
     corpus.iter().for_each(|file| coverage.run(file));
     let (start, mut told) = (Instant::now(), PAUSE);

@@ -11,7 +11,7 @@ fn main() -> io::Result<ExitCode> {
     let mut buffer = Buffer::default();
     for path in std::env::args_os().skip(1) {
         let path = path.to_string_lossy().into_owned();
-        match buffer.compare(&fs::read(&path)?) {
+        match buffer.compare_replayed(&fs::read(&path)?) {
             Ok(_) => println!("{path}: no difference"),
             Err(difference) => {
                 println!("{path}: {difference}");

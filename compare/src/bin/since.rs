@@ -3,12 +3,15 @@
 //!
 //! The two sides are timed in turn, many times over, and each turn begins with the other of them. Printed are the medians of the turns: what each
 //! side takes, and the ratio, with the middle half of the turns' ratios in brackets. Rows together are the sums of what each side takes. Before
-//! that it is seen that both sides answer the same.
+//! that it is seen that both sides answer the same; so of a version that the earlier commit does not know there are no rows, and no files of more
+//! bytes than every commit reads.
 
 #[path = "../../../bench/sets.rs"]
 mod sets;
 
-use checker::generate::generate;
+use checker::file::{write, RunFile, VERSIONS};
+use checker::generate::generate_version;
+use checker::limits;
 use checker::listing::run;
 use compare::steps;
 use compare::timing::{enough, seconds, Spread};
@@ -171,11 +174,31 @@ fn judge_row(name: &str, files: &[Vec<u8>]) -> Took {
     row(name, files, before, after)
 }
 
+/// Whether the earlier commit reads files of a version
+fn before_knows(version: u16) -> bool {
+    let (arities, clauses, steps) = (Vec::new(), Vec::new(), Vec::new());
+    let empty = write(&RunFile { version, constants: 0, arities, clauses, steps }).bytes;
+    told(before_drf_judge, &empty, &mut vec![0; MOST_LISTING]) == b"open\n"
+}
+
+/// Whether it reads all of a file, and of no version that it does not know, as damage can make it
+fn before_reads(file: &[u8]) -> bool {
+    let is_of = |version: u16| file.get(3..5) == Some(&version.to_le_bytes()[..]);
+    file.len() < limits::FILE_BYTES
+        && VERSIONS.into_iter().all(|version| !is_of(version) || before_knows(version))
+}
+
 fn judge_rows() -> Vec<Took> {
-    let (good, bad): (Vec<_>, Vec<_>) =
-        (1..=FILES).map(generate).partition(|file| run(file).is_ok());
-    let mut took = vec![judge_row("files with steps", &good), judge_row("bad files", &bad)];
-    took.extend(steps::all().into_iter().map(|near| judge_row(&near.name, &[near.with])));
+    let mut took = Vec::new();
+    for version in VERSIONS.into_iter().filter(|&version| before_knows(version)) {
+        let files = (1..=FILES).map(|seed| generate_version(version, seed));
+        let (good, bad): (Vec<_>, Vec<_>) =
+            files.filter(|file| before_reads(file)).partition(|file| run(file).is_ok());
+        took.push(judge_row(&format!("files with steps of version {version}"), &good));
+        took.push(judge_row(&format!("bad files of version {version}"), &bad));
+    }
+    let rows = steps::all().into_iter().filter(|near| before_knows(near.version));
+    took.extend(rows.map(|near| judge_row(&near.name, &[near.with])));
     took
 }
 

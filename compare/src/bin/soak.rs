@@ -1,8 +1,9 @@
-//! Generated files through the proved tool and the independent checker, up to a number of files or without end.
+//! Generated files of each version through the proved tool and the independent checker, up to a number of seeds or without end.
 //!
 //! usage: soak THREADS SEED [FILES]
 
-use checker::generate::generate;
+use checker::file::VERSIONS;
+use checker::generate::generate_version;
 use compare::beside::{Buffer, Seen};
 use compare::watch::{keep, keep_hands, watched, Hand};
 use std::io;
@@ -90,15 +91,17 @@ impl Soak {
             if seed >= self.end {
                 break;
             }
-            let file = generate(seed);
-            hand.take(&file)?;
-            match buffer.compare(&file) {
-                Ok(made) => self.seen.lock().expect("whole").note(&made),
-                Err(difference) if !self.found.swap(true, Relaxed) => {
-                    println!("soak: seed {seed}: {difference}");
-                    keep(&format!("soak-{seed}"), &file)?;
+            for version in VERSIONS {
+                let file = generate_version(version, seed);
+                hand.take(&file)?;
+                match buffer.compare_replayed(&file) {
+                    Ok(made) => self.seen.lock().expect("whole").note(&made),
+                    Err(difference) if !self.found.swap(true, Relaxed) => {
+                        println!("soak: version {version}, seed {seed}: {difference}");
+                        keep(&format!("soak-{seed}-{version}"), &file)?;
+                    }
+                    Err(_) => {}
                 }
-                Err(_) => {}
             }
         }
         Ok(())
