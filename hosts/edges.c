@@ -1,8 +1,8 @@
 /* usage: edges FILE
  * The ends of what include/drf.h says, tried on a good run file: buffers one byte short and exactly long enough, ends of every length, null
- * pointers with length 0, and that no other byte is written. Buffers are on the heap and exactly so long, so that valgrind sees a step
- * beyond them. Of tables the same, with what is lent at the end of a page behind which nothing can be touched. Status 1 where something
- * differs, and standard error names it. */
+ * pointers with length 0, and that no other byte is written; and on files of as many bytes as are judged, and of more. Buffers are on the heap and
+ * exactly so long, so that valgrind sees a step beyond them. Of tables the same, with what is lent at the end of a page behind which nothing can be
+ * touched. Status 1 where something differs, and standard error names it. */
 #define _DEFAULT_SOURCE
 #include <pthread.h>
 #include <stdio.h>
@@ -114,6 +114,22 @@ static void nulls(const struct tried *tried, const uint8_t *file, size_t count)
     hold(text > 0 && text == other && memcmp(out, same, text) == 0, tried, "null ends of length 0 change no text");
     free(out);
     free(same);
+}
+
+/* A file of as many bytes as a valid one can have is judged. One byte more is too long, whatever is in it, and so is any longer one. */
+static void file_lengths(const struct tried *tried)
+{
+    static const char judged[] = "bad file 2 0\n", too_long[] = "bad file 22 65536\n";
+    static const size_t counts[] = {DRF_MOST_FILE, DRF_MOST_READ, 2 * DRF_MOST_READ};
+    for (size_t k = 0; k < sizeof counts / sizeof *counts; k++) {
+        const char *said = counts[k] <= DRF_MOST_FILE ? judged : too_long;
+        uint8_t *out = (uint8_t *)blank(tried->most);
+        uint8_t *file = (uint8_t *)blank(counts[k]);
+        size_t text = (size_t)tried->call(file, counts[k], out, tried->most, NULL, 0);
+        hold(text == strlen(said) && memcmp(out, said, text) == 0, tried, "a file is too long exactly above DRF_MOST_FILE bytes");
+        free(file);
+        free(out);
+    }
 }
 
 /* ---- tables */
@@ -231,6 +247,7 @@ int main(int count, char **words)
         lengths(&telling[k], file, read.count);
         slots(&telling[k], file, read.count);
         nulls(&telling[k], file, read.count);
+        file_lengths(&telling[k]);
         hold(memcmp(file, read.bytes, read.count) == 0, &telling[k], "the file stays");
     }
     table_lengths(DRF_EXACT);

@@ -4,7 +4,8 @@
  * drf_judge writes the listing of a file, drf_inspect the listing and after it the final state, drf_inspect_numbers the same with the numbers
  * that accepted steps hand on. What holds of the three, whatever the file's bytes are:
  *
- * - Read are the file_len bytes from file on. They stay as they are. Of more than DRF_MOST_READ bytes is told what is told of the first.
+ * - Read are the file_len bytes from file on. They stay as they are. A file of more than DRF_MOST_FILE bytes is refused as too long, whatever is in
+ *   it, so that a host need read no more than DRF_MOST_READ.
  * - The text is written from out on, and its length is answered. It ends with a newline, and no zero byte is put after it: the bytes of the
  *   buffer past it stay as they were.
  * - 0 is answered exactly if the buffer is short: out_len below DRF_MOST_LISTING (drf_judge), DRF_MOST_INSPECTION (drf_inspect) or
@@ -12,9 +13,9 @@
  * - Else, if ends_len is 2 or more, ends[0] is the number and ends[1] the place that judging ended with, and the other slots stay. If it is
  *   0 or 1, ends stays.
  *
- * After the line of each accepted Propagate, Conflict and Backtrack drf_inspect_numbers writes one more: the word numbers, and for each constant,
- * in their order, a space and its number. The numbers rise, and every atom that the step asks about holds of them; docs/FORMAT.md says which
- * they are.
+ * After the line of each accepted Propagate, Decide, Conflict and Backtrack drf_inspect_numbers writes one more: the word numbers, and for each
+ * constant, in their order, a space and its number. The numbers rise, and every atom that the step asks about holds of them; docs/FORMAT.md says
+ * which they are.
  *
  * drf_table writes the input clauses of a lookup table, as a run file has them and without their number. What holds of it, whatever the
  * numbers are:
@@ -49,17 +50,20 @@
 extern "C" {
 #endif
 
-/* "A valid file is below 65,536 bytes; the program reads no more." */
-#define DRF_MOST_READ 65535
+/* "From version 2 on a valid file may have up to 65,536 bytes": a longer one is refused as DRF_TOO_LONG, whatever is in it. */
+#define DRF_MOST_FILE 65536
+
+/* "Of any file the program reads one byte more and no further." */
+#define DRF_MOST_READ 65537
 
 /* A buffer of so many bytes has room for every listing. */
 #define DRF_MOST_LISTING 54008
 
 /* A buffer of so many bytes has room for every listing with its final state. */
-#define DRF_MOST_INSPECTION 136078
+#define DRF_MOST_INSPECTION 136558
 
 /* A buffer of so many bytes has room for every listing with its final state and the numbers that steps hand on. */
-#define DRF_MOST_WITH_NUMBERS 536078
+#define DRF_MOST_WITH_NUMBERS 536558
 
 /* "Make the input clauses from up to 48 rows of key and result." */
 #define DRF_MOST_ROWS 48
@@ -71,7 +75,7 @@ extern "C" {
 #define DRF_MOST_TABLE 1488
 
 /* The stack of a thread that calls, in bytes; what is lent is not in it. */
-#define DRF_STACK 131072
+#define DRF_STACK 147456
 
 uint64_t drf_judge(const uint8_t *file, size_t file_len, uint8_t *out, size_t out_len, uint64_t *ends, size_t ends_len);
 uint64_t drf_inspect(const uint8_t *file, size_t file_len, uint8_t *out, size_t out_len, uint64_t *ends, size_t ends_len);
@@ -102,7 +106,8 @@ enum drf_refusal {
     DRF_NO_ROOM = 18,
     DRF_TOO_MANY_ROWS = 19,
     DRF_NOT_IN_ORDER = 20,
-    DRF_BUFFER_SHORT = 21
+    DRF_BUFFER_SHORT = 21,
+    DRF_TOO_LONG = 22
 };
 
 /* The last line of a listing. */

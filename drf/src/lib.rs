@@ -11,17 +11,20 @@
 
 use std::fmt;
 
-/// "A valid file is below 65,536 bytes; the program reads no more." A longer file is told of as its first bytes are.
-pub const MOST_READ: usize = 65_535;
+/// "From version 2 on a valid file may have up to 65,536 bytes": a longer one is refused as `TOO_LONG`, whatever is in it.
+pub const MOST_FILE: usize = 65_536;
+
+/// "Of any file the program reads one byte more and no further." A longer file is told of as its first bytes are.
+pub const MOST_READ: usize = 65_537;
 
 /// A buffer of so many bytes has room for every listing, and a shorter one is refused.
 pub const MOST_LISTING: usize = 54_008;
 
 /// A buffer of so many bytes has room for every listing with its final state, and a shorter one is refused.
-pub const MOST_INSPECTION: usize = 136_078;
+pub const MOST_INSPECTION: usize = 136_558;
 
 /// A buffer of so many bytes has room for every listing with its final state and the numbers that steps hand on, and a shorter one is refused.
-pub const MOST_WITH_NUMBERS: usize = 536_078;
+pub const MOST_WITH_NUMBERS: usize = 536_558;
 
 /// "Make the input clauses from up to 48 rows of key and result": a table with more is refused.
 pub const MOST_ROWS: usize = 48;
@@ -34,7 +37,7 @@ pub const MOST_TABLE: usize = 1_488;
 
 /// The stack of a thread that calls, in bytes; what is lent is not in it. What a thread has where nothing is said is enough:
 /// `std::thread` gives 2 MiB.
-pub const STACK: usize = 131_072;
+pub const STACK: usize = 147_456;
 
 /// The refusal numbers. `docs/REFUSALS.md` says when each is given.
 pub mod refusal {
@@ -60,6 +63,7 @@ pub mod refusal {
     pub const TOO_MANY_ROWS: u8 = 19;
     pub const NOT_IN_ORDER: u8 = 20;
     pub const BUFFER_SHORT: u8 = 21;
+    pub const TOO_LONG: u8 = 22;
 }
 
 extern "C" {
@@ -160,9 +164,9 @@ pub fn inspect<'a>(file: &[u8], out: &'a mut [u8]) -> Result<Told<'a>, Short> {
     told(drf_inspect, file, out)
 }
 
-/// What `inspect` writes, with the numbers that accepted steps hand on. Beneath the line of each accepted Propagate, Conflict and Backtrack stands
-/// one more: `numbers`, and for each constant, in their order, a space and its number. The numbers rise, and every atom that the step asks about
-/// holds of them; `docs/FORMAT.md` says which they are. Short exactly below `MOST_WITH_NUMBERS` bytes.
+/// What `inspect` writes, with the numbers that accepted steps hand on. Beneath the line of each accepted Propagate, Decide, Conflict and Backtrack
+/// stands one more: `numbers`, and for each constant, in their order, a space and its number. The numbers rise, and every atom that the step asks
+/// about holds of them; `docs/FORMAT.md` says which they are. Short exactly below `MOST_WITH_NUMBERS` bytes.
 pub fn inspect_numbers<'a>(file: &[u8], out: &'a mut [u8]) -> Result<Told<'a>, Short> {
     told(drf_inspect_numbers, file, out)
 }

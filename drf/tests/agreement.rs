@@ -69,10 +69,15 @@ fn tables() {
     assert_eq!(drf::MOST_TABLE, drf::MOST_ROWS * (3 + 4 * 6 + 4));
 }
 
+/// One byte more is read than a valid file can have.
 #[test]
 fn bytes_read() {
     let header = defined(&text("include/drf.h"));
+    let steps = constants(&text("crates/steps/src/lib.rt"), "usize");
+    assert_eq!(header.get("MOST_FILE"), Some(&drf::MOST_FILE), "include/drf.h");
+    assert_eq!(steps.get("MOST_FILE"), Some(&drf::MOST_FILE), "crates/steps");
     assert_eq!(header.get("MOST_READ"), Some(&drf::MOST_READ), "include/drf.h");
+    assert_eq!(drf::MOST_READ, drf::MOST_FILE + 1);
     for program in ["crates/judge/src/main.rt", "crates/inspect/src/main.rt"] {
         let read = constants(&text(program), "usize");
         assert_eq!(read.get("MOST_READ"), Some(&drf::MOST_READ), "{program}");
@@ -83,7 +88,7 @@ fn bytes_read() {
 fn refusals() {
     let mut proved = constants(&text("crates/basis/src/lib.rt"), "u8");
     proved.insert("ACCEPTED".to_string(), 0);
-    assert_eq!(proved.len(), 22);
+    assert_eq!(proved.len(), 23);
     assert_eq!(constants(&text("drf/src/lib.rs"), "u8"), proved, "drf/src/lib.rs");
     let header = defined(&text("include/drf.h"));
     for (name, number) in &proved {

@@ -1,7 +1,7 @@
 //! What is told of run files: verdict, number and place, and what the buffer holds afterwards.
 
 use drf::{inspect, inspect_numbers, judge, refusal, Short, Told, Verdict};
-use drf::{MOST_INSPECTION, MOST_LISTING, MOST_READ, MOST_WITH_NUMBERS, STACK};
+use drf::{MOST_FILE, MOST_INSPECTION, MOST_LISTING, MOST_READ, MOST_WITH_NUMBERS, STACK};
 use std::fs;
 use std::path::PathBuf;
 use std::thread::Builder;
@@ -39,6 +39,12 @@ fn with_steps(steps: &[&[u8]]) -> Vec<u8> {
     file.truncate(BEFORE_STEPS);
     file.extend((steps.len() as u16).to_le_bytes());
     file.extend(steps.concat());
+    file
+}
+
+fn in_version(version: u8, file: &[u8]) -> Vec<u8> {
+    let mut file = file.to_vec();
+    file[3] = version;
     file
 }
 
@@ -84,7 +90,7 @@ fn alike(file: &[u8]) -> (String, Ends) {
 /// Whether a line is that of an accepted step of a rule that asks what is possible
 fn hands_on(line: &str) -> bool {
     match line.split(' ').collect::<Vec<_>>()[..] {
-        [_, "propagate" | "conflict" | "backtrack", word, _] => word != "refused",
+        [_, "propagate" | "decide" | "conflict" | "backtrack", word, _] => word != "refused",
         _ => false,
     }
 }
@@ -153,23 +159,61 @@ fn refuted_and_refused() {
 fn bad_files() {
     let first = example("first.drf");
     let longer = [&first[..], &[0]].concat();
-    let mut other_version = first.clone();
-    other_version[3] = 2;
+    let [none, later] = [0, 3].map(|version| in_version(version, &first));
     for (file, number, place) in [
         (&first[..0], refusal::ENDS_INSIDE, 0),
         (&first[..46], refusal::ENDS_INSIDE, 46),
         (&longer[..], refusal::SURPLUS, 47),
-        (&other_version[..], refusal::WRONG_MARK, 3),
+        (&none[..], refusal::WRONG_MARK, 3),
+        (&later[..], refusal::WRONG_MARK, 3),
     ] {
         let text = format!("bad file {number} {place}\n");
         assert_eq!(alike(file), (text, (Verdict::BadFile, number, place)));
     }
 }
 
+/// Without decisions the two versions say the same.
+#[test]
+fn versions() {
+    let first = example("first.drf");
+    assert_eq!(alike(&in_version(2, &first)), alike(&first));
+}
+
+/// What is too long is refused as that, whatever is in it; what is not is judged.
 #[test]
 fn bytes_that_are_not_read() {
-    let file = [example("first.drf"), vec![0; MOST_READ]].concat();
-    assert_eq!(alike(&file), alike(&file[..MOST_READ]));
+    let file = [example("first.drf"), vec![0; 2 * MOST_READ]].concat();
+    let bad =
+        |number, place| (format!("bad file {number} {place}\n"), (Verdict::BadFile, number, place));
+    let too_long = bad(refusal::TOO_LONG, MOST_FILE as u64);
+    assert_eq!(alike(&file[..MOST_FILE]), bad(refusal::SURPLUS, 47));
+    assert_eq!(alike(&file[..MOST_READ]), too_long);
+    assert_eq!(alike(&file), too_long);
+    assert_eq!(alike(&[0; MOST_READ]), too_long);
+}
+
+/// One constant, the clause x <= 1,000,000 || P, and a decision of P that brings the clause's atom with this sign
+fn bringing(sign: u8) -> Vec<u8> {
+    let head = [b"DRF\x02\x00", &[1, 1, 0, 1, 1, 1, 1, 1, 0][..]].concat();
+    let decide = [2, 1, 1, 1, 1, 1, 1, 1, 1, sign, 1, 1];
+    [&head[..], &1_000_000_i32.to_le_bytes(), &[1, 1, 1, 0], &decide].concat()
+}
+
+/// The atom follows the decision with its source; denied it is 0 - x <= -1,000,001. Another sign is refused where it stands.
+#[test]
+fn decisions_that_bring() {
+    for (sign, atom, number) in [(1, "1-0<=1000000", 0), (0, "0-1<=-1000001", 1_000_001)] {
+        let mut out = vec![0; MOST_WITH_NUMBERS];
+        let told = inspect_numbers(&bringing(sign), &mut out).expect("room for numbers");
+        let text = String::from_utf8_lossy(told.text);
+        let lines: Vec<&str> = text.lines().collect();
+        let first = ["1 decide 2 1", &format!("numbers {number}"), "open", "constants 1 level 1"];
+        let brought = format!("trail 2 {atom} brought 1 1 {sign} (1)");
+        assert_eq!(lines[..4], first, "{text}");
+        assert_eq!(lines[4..6], ["trail 1 P1() decide 1 1 (1)", &brought], "{text}");
+    }
+    let place = bringing(0).len() as u64 - 3;
+    assert_eq!(alike(&bringing(2)).1, (Verdict::BadFile, refusal::OUT_OF_RANGE, place));
 }
 
 /// The lines of numbers of a file

@@ -1,7 +1,7 @@
 //! Texts that say no run file: those of broken.txt give the faults that stand there, and whatever a text or a table is changed to, a fault
 //! tells of what stands at its place.
 
-use checker::generate::generate;
+use checker::generate::generate_version;
 use checker::random::Random;
 use shell::text::{bytes, rows, text, Fault};
 use std::thread;
@@ -12,14 +12,16 @@ struct Broken {
     fault: &'static str,
 }
 
-/// What HEAD stands for
+/// What HEAD and HEAD2 stand for
 const HEAD: &str = "drf 1\nconstants soda lime\npredicates Taken/2 1 0\n";
+const HEAD2: &str = "drf 2\nconstants soda lime\npredicates Taken/2 1 0\n";
 
 fn broken() -> Vec<Broken> {
     let (mut cases, mut text) = (Vec::new(), String::new());
     for line in include_str!("broken.txt").split_inclusive('\n') {
         if let Some(fault) = line.strip_prefix("! ") {
-            let text = unescaped(&std::mem::take(&mut text).replace("HEAD\n", HEAD));
+            let text = std::mem::take(&mut text).replace("HEAD\n", HEAD).replace("HEAD2\n", HEAD2);
+            let text = unescaped(&text);
             cases.push(Broken { text, fault: fault.trim_end() });
         } else if !(line.starts_with('%') || text.is_empty() && line == "\n") {
             text.push_str(line);
@@ -127,9 +129,9 @@ const WORKERS: u64 = 2;
 /// What is put into texts: what tokens are made of, blanks and ends of lines, and what no text has outside of comments
 const PUT: &str = "0123456789012345678901234567890123456789[](),-<=~+/#P_abz \t\n\r.;:!|\\`\"\u{FEFF}\u{2212}\u{2264}\u{AC}ö\0\u{1B}\u{A0}";
 
-/// The texts of some generated files, short ones
+/// The texts of some generated files of either version, short ones
 fn texts() -> Vec<String> {
-    let files = (1..=600).map(generate);
+    let files = (1..=600).map(|seed| generate_version(seed % 2 + 1, seed.into()));
     files.filter_map(|file| text(&file)).filter(|text| text.len() < 2_000).collect()
 }
 

@@ -2,7 +2,7 @@
 
 mod common;
 
-use checker::generate::generate;
+use checker::generate::generate_version;
 use common::{first, open, stopped, Ended, Folder, FIRST, ROOT};
 use drf::{inspect, inspect_numbers, judge, Verdict, MOST_WITH_NUMBERS};
 use std::fs;
@@ -36,7 +36,7 @@ fn drf(folder: &Folder, words: &[&str]) -> Ended {
     common::ended(Command::new(env!("CARGO_BIN_EXE_drf")).current_dir(&folder.0).args(words))
 }
 
-/// The examples, and generated files, by their names.
+/// The examples, and generated files of either version, by their names.
 fn files(folder: &Folder) -> Vec<(String, Vec<u8>)> {
     let examples = fs::read_dir(format!("{ROOT}/examples")).expect("the folder of the examples");
     let mut files: Vec<_> = examples
@@ -45,7 +45,8 @@ fn files(folder: &Folder) -> Vec<(String, Vec<u8>)> {
         .map(|path| (path.display().to_string(), fs::read(&path).expect("an example")))
         .collect();
     assert!(files.len() >= 3);
-    files.extend((1..=GENERATED).map(|seed| (format!("{seed}.drf"), generate(seed))));
+    let generated = |seed| generate_version(1 + (seed % 2) as u16, seed);
+    files.extend((1..=GENERATED).map(|seed| (format!("{seed}.drf"), generated(seed))));
     for (name, file) in &files[files.len() - GENERATED as usize..] {
         folder.put(name, file);
     }

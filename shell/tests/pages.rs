@@ -4,7 +4,7 @@
 mod common;
 
 use common::{Ended, Folder};
-use drf::refusal::TOO_MANY_ROWS;
+use drf::refusal::{BUFFER_SHORT, TOO_MANY_ROWS};
 use std::collections::BTreeMap;
 use std::fs;
 use std::path::{Path, PathBuf};
@@ -38,6 +38,12 @@ fn numbered(file: &[u8]) -> String {
 fn numbered_listing(file: &[u8]) -> String {
     let text = numbered(file);
     text.split_inclusive('\n').take_while(|line| !line.starts_with("constants ")).collect()
+}
+
+/// Of the final state the trail
+fn trail(file: &[u8]) -> String {
+    let text = inspection(file);
+    text.split_inclusive('\n').filter(|line| line.starts_with("trail ")).collect()
 }
 
 /// The run file that a text says
@@ -153,12 +159,14 @@ impl Section {
 }
 
 impl Block {
-    /// The run file of a text or of bytes
+    /// The run file of a text or of bytes; `zeros` with a number is one of so many bytes of 0
     fn file(&self) -> Vec<u8> {
-        match self.kind.as_str() {
-            "drf" => said(&self.body),
-            "hex" => hex(&self.body),
-            kind => panic!("a block of kind {kind:?} where a run is expected:\n{}", self.body),
+        let zeros = self.kind.strip_prefix("zeros ").and_then(|count| count.parse().ok());
+        match (self.kind.as_str(), zeros) {
+            ("drf", _) => said(&self.body),
+            ("hex", _) => hex(&self.body),
+            (_, Some(count)) => vec![0; count],
+            (kind, _) => panic!("a block of kind {kind:?} where a run is expected:\n{}", self.body),
         }
     }
 }
@@ -208,7 +216,7 @@ fn texts_are_the_sources_of_the_files() {
 
 #[test]
 fn examples_have_their_listings() {
-    let (mut told, mut with_numbers) = (Vec::new(), 0);
+    let (mut told, mut more) = (Vec::new(), Vec::new());
     for section in sections("docs/EXAMPLES.md") {
         let file = section.heading.split('`').nth(1);
         if file == Some(CODES) {
@@ -219,15 +227,16 @@ fn examples_have_their_listings() {
             continue;
         };
         let run = read(file);
-        let printed = [("listing", listing(&run)), ("numbers", numbered_listing(&run))];
-        assert!((1..=printed.len()).contains(&section.blocks.len()), "{file}");
+        let printed = [listing(&run), numbered_listing(&run), trail(&run)];
+        let printed = ["listing", "numbers", "trail"].into_iter().zip(&printed);
+        assert!((1..=3).contains(&section.blocks.len()), "{file}");
         for (block, (kind, text)) in section.blocks.iter().zip(printed) {
-            assert_eq!((block.kind.as_str(), &block.body), (kind, &text), "{file}");
+            assert_eq!((block.kind.as_str(), &block.body), (kind, text), "{file}");
         }
         told.push(file.to_string());
-        with_numbers += section.blocks.len() - 1;
+        more.push(section.blocks.len() - 1);
     }
-    assert_eq!(with_numbers, 2);
+    assert_eq!(more.iter().sum::<usize>(), 4, "{more:?}");
     told.sort();
     let files: Vec<String> =
         examples("drf").iter().map(|name| format!("examples/{name}.drf")).collect();
@@ -288,6 +297,68 @@ fn lookup_has_no_refutation_with_exact_match() {
             let end = format!("{refused} refused 13\nstopped\n");
             assert!(printed.ends_with(&end), "{run}{printed}");
         }
+    }
+}
+
+/// The denial of an atom, as both are written
+fn denied(atom: &str) -> String {
+    let (places, c) = atom.split_once("<=").expect("an atom");
+    let (p, q) = places.split_once('-').expect("two places");
+    let c: i32 = c.parse().expect("a number");
+    format!("{q}-{p}<={}", -c - 1)
+}
+
+/// What the clauses of a state are made of, atoms and literals; at constant 1 they read the same, since each clause has one variable.
+fn parts(state: &str) -> Vec<&str> {
+    let clauses = state.lines().filter(|line| line.starts_with("clause "));
+    let parts = clauses.flat_map(|line| line.split(' ').skip(3));
+    parts.map(|part| part.trim_matches(['[', ']'])).filter(|part| !part.is_empty()).collect()
+}
+
+/// Every atom and literal is on the trail or denied there, and no clause is a conflict.
+#[test]
+fn sides_is_finished() {
+    let file = read("examples/sides.drf");
+    let (state, trail) = (inspection(&file), trail(&file));
+    let on_trail: Vec<&str> = trail.lines().filter_map(|line| line.split(' ').nth(2)).collect();
+    let parts = parts(&state);
+    assert_eq!(parts.len(), 14, "{parts:?}");
+    for part in parts {
+        let other = match part.strip_prefix('~') {
+            _ if part.contains("<=") => denied(part),
+            Some(literal) => literal.to_string(),
+            None => format!("~{part}"),
+        };
+        let either = [part, &other].map(|part| on_trail.contains(&part));
+        assert_eq!(either.iter().filter(|there| **there).count(), 1, "{part}");
+    }
+    let text = read_text("examples/sides.txt");
+    for clause in 1..=5 {
+        let listing = listing(&said(&format!("{text}conflict {clause} (code)\n")));
+        assert!(listing.ends_with("\nstopped\n"), "{clause}: {listing}");
+    }
+}
+
+/// Clause 3 is a conflict where the decision of ~First(code) brings nothing, and refused 13 where it brings the denial of its atom.
+#[test]
+fn sides_needs_its_bound() {
+    let text = read_text("examples/sides.txt");
+    let bound = " with 3 1 ~ (code)";
+    assert!(text.contains(&format!("11 decide 3 2 ~ (code){bound}")));
+    let in_version_1 = format!("{} decide 3 2 ~ (code)\n", cut(&text.replace("drf 2", "drf 1"), 0));
+    for (run, end) in [
+        (format!("{}conflict 3 (code)\n", cut(&text, 11)), "\n12 conflict refused 13\nstopped\n"),
+        (
+            format!("{}conflict 3 (code)\n", cut(&text, 11).replace(bound, "")),
+            "\n12 conflict 5 1\nopen\n",
+        ),
+        (
+            format!("{in_version_1}propagate 1 1 (code)\nconflict 3 (code)\n"),
+            "\n3 conflict 4 1\nopen\n",
+        ),
+    ] {
+        let listing = listing(&said(&run));
+        assert!(listing.ends_with(end), "{run}{listing}");
     }
 }
 
@@ -384,22 +455,26 @@ fn refusals() -> Vec<(usize, Section)> {
 
 #[test]
 fn every_number_has_its_section() {
-    let headings: Vec<String> =
-        refusals().into_iter().map(|(_, section)| section.heading).collect();
+    let headings: BTreeMap<usize, String> =
+        refusals().into_iter().map(|(number, section)| (number, section.heading)).collect();
     let words: Vec<String> =
         words().iter().map(|(number, words)| format!("{number}: {words}")).collect();
-    assert_eq!(words.len(), 21);
-    assert_eq!(headings, words);
+    assert_eq!(words.len(), 22);
+    assert_eq!(headings.into_values().collect::<Vec<_>>(), words);
+}
+
+fn is_of_tables(number: usize) -> bool {
+    (TOO_MANY_ROWS.into()..=BUFFER_SHORT.into()).contains(&number)
 }
 
 /// The sections of the numbers that a run can be refused by
 fn of_runs() -> Vec<(usize, Section)> {
-    refusals().into_iter().filter(|(number, _)| *number < TOO_MANY_ROWS.into()).collect()
+    refusals().into_iter().filter(|(number, _)| !is_of_tables(*number)).collect()
 }
 
 /// The sections of the numbers that a table can be refused by
 fn of_tables() -> Vec<(usize, Section)> {
-    refusals().into_iter().filter(|(number, _)| *number >= TOO_MANY_ROWS.into()).collect()
+    refusals().into_iter().filter(|(number, _)| is_of_tables(*number)).collect()
 }
 
 /// Whether a listing ends with this refusal
@@ -502,13 +577,22 @@ const FORMAT: &str = "docs/FORMAT.md";
 
 #[test]
 fn annotated_bytes_are_the_example() {
-    let mut file = Vec::new();
-    for row in section(FORMAT, "The paper's example, byte by byte").rows() {
+    let (start, file) = annotated("The paper's example, byte by byte");
+    assert_eq!((start, file), (0, read("examples/first.drf")));
+    let (start, step) = annotated("A decision that brings an atom");
+    let [before, with_step] = [0, 1].map(|last| said(&cut(&read_text("examples/sides.txt"), last)));
+    assert_eq!((start, step), (before.len(), with_step[before.len()..].to_vec()));
+}
+
+/// The place of the first byte that a section's table sets out, and all its bytes
+fn annotated(heading: &str) -> (usize, Vec<u8>) {
+    let (mut start, mut bytes) = (None, Vec::new());
+    for row in section(FORMAT, heading).rows() {
         let Some(place) = number(&row[0]) else { continue };
-        assert_eq!(place, file.len(), "{row:?}");
-        file.extend(hex(&row[1]));
+        assert_eq!(place, *start.get_or_insert(place) + bytes.len(), "{row:?}");
+        bytes.extend(hex(&row[1]));
     }
-    assert_eq!(file, read("examples/first.drf"));
+    (start.expect("a table of bytes"), bytes)
 }
 
 /// The value that the sources give to a name
@@ -522,9 +606,8 @@ fn source(name: &str) -> usize {
         "MOST_TABLE" => drf::MOST_TABLE,
         "MOST_STEPS" => constant("crates/fields/src/lib.rt", "const MOST_STEPS: u32 = "),
         "MOST_C" => drf::MOST_C as usize,
-        "MostFileCounted" => {
-            constant("crates/runfile/specs/Claims.antt", "MostFileCounted = mostFile ≡ ")
-        }
+        "MOST_FILE" => drf::MOST_FILE,
+        "MOST_DENIED" => constant("crates/basis/src/lib.rt", "pub const MOST_DENIED: i32 = "),
         _ => constant("crates/basis/src/lib.rt", &format!("pub const {name}: usize = ")),
     }
 }
@@ -555,8 +638,10 @@ fn limits_are_those_of_the_sources() {
     }
 }
 
-/// What a file without constants, predicates and clauses begins with, as text
-const EMPTY: &str = "drf 1\nconstants 0\npredicates\n";
+/// What a file of a version without constants, predicates and clauses begins with, as text
+fn empty(version: u16) -> String {
+    format!("drf {version}\nconstants 0\npredicates\n")
+}
 
 /// A rule's arguments as a table names them, each as a text has it and as so many bytes
 fn argument(name: &str) -> (&str, usize) {
@@ -564,6 +649,7 @@ fn argument(name: &str) -> (&str, usize) {
         "none" => ("", 0),
         "sign" => (" +", 1),
         "instance" => (" ()", 1),
+        "atoms" => (" with 1 1 ~ ()", 5),
         _ => (" 1", 1),
     }
 }
@@ -574,11 +660,15 @@ fn rules_are_as_the_page_says() {
     let rules: Vec<_> =
         rows.iter().filter(|row| row.len() == 3 && number(&row[0]).is_some()).collect();
     assert_eq!(rules.len(), 8);
-    for rule in rules {
-        let arguments: Vec<_> = rule[2].split(", ").map(argument).collect();
+    for (rule, version) in rules.iter().flat_map(|rule| [(rule, 1), (rule, 2)]) {
+        let (both, second) =
+            rule[2].split_once("; in version 2 then ").unwrap_or((&rule[2], "none"));
+        let second = if version == 2 { second } else { "none" };
+        let arguments: Vec<_> = both.split(", ").chain([second]).map(argument).collect();
         let text: String = arguments.iter().map(|argument| argument.0).collect();
-        let file = said(&format!("{EMPTY}{}{text}\n", rule[1]));
-        let step = &file[said(EMPTY).len()..];
+        let empty = empty(version);
+        let file = said(&format!("{empty}{}{text}\n", rule[1]));
+        let step = &file[said(&empty).len()..];
         assert_eq!(Some(step[0].into()), number(&rule[0]), "{rule:?}");
         assert_eq!(step.len(), 1 + arguments.iter().map(|argument| argument.1).sum::<usize>());
         assert!(listing(&file).starts_with(&format!("1 {} ", rule[1])), "{rule:?}");
@@ -597,18 +687,23 @@ fn examples_of_lines_are_read() {
         let row = rows.iter().find(|row| row[0].starts_with(name));
         in_cell(&row.unwrap_or_else(|| panic!("no row {name:?}"))[2])
     };
-    for (constants, predicates) in of("constants").iter().zip(of("predicates")) {
-        let mut lines = of("drf");
-        lines.extend([constants, predicates]);
-        lines.extend(of("clause").into_iter().chain(of("NUMBER")));
-        said(&lines.join("\n"));
+    for version in of("drf") {
+        for (constants, predicates) in of("constants").iter().zip(of("predicates")) {
+            let mut lines = vec![version, constants, predicates];
+            lines.extend(of("clause").into_iter().chain(of("NUMBER")));
+            said(&lines.join("\n"));
+        }
     }
     let clause = format!("clause 2 [{}] {}\n", of("atom").join(" "), of("literal").join(" "));
     let step = |instance: &&str| format!("conflict 1 {instance}\n");
     let decide = |sign: &&str| format!("decide 1 1 {sign} ()\n");
     let steps: String =
         of("instance").iter().map(step).chain(of("Decide").iter().map(decide)).collect();
-    said(&format!("drf 1\nconstants soda lime\npredicates Taken/2 1 0\n{clause}{steps}"));
+    let bringing = |atoms: &&str| format!("decide 1 1 + () {atoms}\n");
+    let bringing: String = of("atoms").iter().map(bringing).collect();
+    let head = "constants soda lime\npredicates Taken/2 1 0";
+    said(&format!("drf 1\n{head}\n{clause}{steps}"));
+    said(&format!("drf 2\n{head}\n{clause}{steps}{bringing}"));
 }
 
 #[test]

@@ -10,10 +10,12 @@ pub const ROOM_FOR_STEPS: usize = 65_535;
 pub enum Field {
     /// One byte that is a number: what it counts or names.
     Number(&'static str),
-    /// 0 negative or 1 positive
-    Sign,
+    /// 0, written `~`, or 1, written `+`: how the two are told of
+    Sign(&'static str),
     /// A count and constants
     Instance,
+    /// A count, and so many atoms of the fields `ATOM`
+    Brought,
 }
 
 pub struct Rule {
@@ -25,16 +27,39 @@ const CLAUSE: Field = Field::Number("a clause's number");
 const LITERAL: Field = Field::Number("a literal's number");
 const CONSTANTS: Field = Field::Number("a number of constants");
 
-const RULES: [Rule; 8] = [
-    Rule { name: "propagate", fields: &[CLAUSE, LITERAL, Field::Instance] },
-    Rule { name: "decide", fields: &[CLAUSE, LITERAL, Field::Sign, Field::Instance] },
-    Rule { name: "conflict", fields: &[CLAUSE, Field::Instance] },
-    Rule { name: "resolve", fields: &[LITERAL] },
-    Rule { name: "factorize", fields: &[LITERAL, LITERAL] },
-    Rule { name: "skip", fields: &[] },
-    Rule { name: "backtrack", fields: &[LITERAL] },
-    Rule { name: "grow", fields: &[CONSTANTS] },
+/// Of a literal: positive, negative
+const SIGN: Field = Field::Sign("`+` or `~`");
+
+/// The word between a decision and the atoms that it brings
+pub const WITH: &str = "with";
+
+/// Of an atom that a decision brings
+pub const ATOM: &[Field] = &[
+    CLAUSE,
+    Field::Number("an atom's number"),
+    Field::Sign("`+` as it stands, `~` denied"),
+    Field::Instance,
 ];
+
+const DECIDE: &[Field] = &[CLAUSE, LITERAL, SIGN, Field::Instance];
+const DECIDE_BRINGING: &[Field] = &[CLAUSE, LITERAL, SIGN, Field::Instance, Field::Brought];
+
+/// The rules, with these fields of Decide
+const fn rules(decide: &'static [Field]) -> [Rule; 8] {
+    [
+        Rule { name: "propagate", fields: &[CLAUSE, LITERAL, Field::Instance] },
+        Rule { name: "decide", fields: decide },
+        Rule { name: "conflict", fields: &[CLAUSE, Field::Instance] },
+        Rule { name: "resolve", fields: &[LITERAL] },
+        Rule { name: "factorize", fields: &[LITERAL, LITERAL] },
+        Rule { name: "skip", fields: &[] },
+        Rule { name: "backtrack", fields: &[LITERAL] },
+        Rule { name: "grow", fields: &[CONSTANTS] },
+    ]
+}
+
+static RULES_1: [Rule; 8] = rules(DECIDE);
+static RULES_2: [Rule; 8] = rules(DECIDE_BRINGING);
 
 /// What the files of a version have
 pub struct Version {
@@ -44,7 +69,8 @@ pub struct Version {
 }
 
 /// From the earliest to the latest
-static VERSIONS: [Version; 1] = [Version { number: 1, rules: &RULES }];
+static VERSIONS: [Version; 2] =
+    [Version { number: 1, rules: &RULES_1 }, Version { number: 2, rules: &RULES_2 }];
 
 impl Version {
     pub fn of(number: u16) -> Option<&'static Version> {

@@ -1,7 +1,7 @@
 //! A text is read line by line, and its run file written.
 
 use super::fault::{cut, shown, Fault};
-use super::fields::{opening, Field, Version, ROOM_FOR_STEPS};
+use super::fields::{opening, Field, Version, ATOM, ROOM_FOR_STEPS, WITH};
 use super::names::{Constants, Predicates};
 use super::tokens::{is_name, is_number, Line, Lines, MOST_BYTE};
 
@@ -120,7 +120,7 @@ impl Reader<'_> {
         Ok(())
     }
 
-    /// `1 propagate 1 1 (2,1)`
+    /// `1 propagate 1 1 (2,1)`, `2 decide 1 1 + (1) with 2 1 + (1), 2 2 ~ (1)`
     fn step(&self, mut line: Line, steps: &mut List) -> Result<(), Fault> {
         if line.token() == "clause" {
             return Err(line.fault("every clause before the first step"));
@@ -137,7 +137,9 @@ impl Reader<'_> {
         for field in fields {
             self.field(&mut line, *field, &mut steps.bytes)?;
         }
-        line.end("the end of the line")
+        let bringing = " (`decide` brings atoms, from `drf 2` on)";
+        let hint = if line.token() == WITH { bringing } else { "" };
+        line.end(format_args!("the end of the line{hint}"))
     }
 
     /// The number and the fields of the rule that the next token names
@@ -154,10 +156,10 @@ impl Reader<'_> {
     fn field(&self, line: &mut Line, field: Field, file: &mut Vec<u8>) -> Result<(), Fault> {
         match field {
             Field::Number(what) => file.push(line.byte(what)?),
-            Field::Sign => {
+            Field::Sign(either) => {
                 let positive = line.passes("+");
                 if !positive {
-                    line.one("~", "a sign (`+` or `~`)")?;
+                    line.one("~", format_args!("a sign ({either})"))?;
                 }
                 file.push(positive.into());
             }
@@ -167,8 +169,29 @@ impl Reader<'_> {
                 file.push(constants.len() as u8);
                 file.extend(constants);
             }
+            Field::Brought => {
+                let atoms = self.brought(line)?;
+                file.push(atoms.count as u8);
+                file.extend(atoms.bytes);
+            }
         }
         Ok(())
+    }
+
+    /// `with 2 1 + (1), 2 2 ~ (1)` and the line's end; where nothing stands before that, no atom is brought.
+    fn brought(&self, line: &mut Line) -> Result<List, Fault> {
+        let mut atoms = List::default();
+        let mut before = WITH;
+        while line.passes(before) {
+            line.room(atoms.count, MOST_BYTE, "atoms of a decision")?;
+            atoms.count += 1;
+            for field in ATOM {
+                self.field(line, *field, &mut atoms.bytes)?;
+            }
+            before = ",";
+        }
+        line.end(format_args!("`{before}` or the end of the line"))?;
+        Ok(atoms)
     }
 }
 

@@ -1,6 +1,6 @@
 //! The text of a run file: numbers and no names, each clause and step with its number, one space between fields.
 
-use super::fields::{opened, Field, Version};
+use super::fields::{opened, Field, Version, ATOM, WITH};
 use std::fmt::Write;
 
 /// The text of a file, or none where the file ends inside a field, goes on behind the last one, or has a byte that no text says.
@@ -89,26 +89,45 @@ impl<'a> Writer<'a> {
         let rule = usize::from(self.byte()?).checked_sub(1)?;
         let rule = self.version.rules.get(rule)?;
         write!(self.text, "{number} {}", rule.name).ok()?;
-        for field in rule.fields {
-            self.text.push(' ');
-            self.argument(*field)?;
-        }
+        self.arguments(rule.fields)?;
         self.text.push('\n');
         Some(())
     }
 
+    fn arguments(&mut self, fields: &[Field]) -> Option<()> {
+        fields.iter().try_for_each(|field| self.argument(*field))
+    }
+
+    /// A space and the argument; nothing where a decision brings no atoms
     fn argument(&mut self, field: Field) -> Option<()> {
         match field {
             Field::Number(_) => {
                 let number = self.byte()?;
-                write!(self.text, "{number}").ok()
+                write!(self.text, " {number}").ok()
             }
-            Field::Sign => self.sign("+"),
+            Field::Sign(_) => {
+                self.text.push(' ');
+                self.sign("+")
+            }
             Field::Instance => {
+                self.text.push(' ');
                 let count = self.byte()?;
                 self.tuple(count)
             }
+            Field::Brought => self.brought(),
         }
+    }
+
+    /// ` with 2 1 + (1), 2 2 ~ (1)`
+    fn brought(&mut self) -> Option<()> {
+        for atom in 0..self.byte()? {
+            match atom {
+                0 => write!(self.text, " {WITH}").ok()?,
+                _ => self.text.push(','),
+            }
+            self.arguments(ATOM)?;
+        }
+        Some(())
     }
 
     /// A sign, in the way that a positive one is written
