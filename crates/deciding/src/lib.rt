@@ -23,7 +23,7 @@ use basis::Witness;
 use instances::decided_literal;
 use testing::Atoms;
 use testing::all_undefined;
-use testing::gathered;
+use testing::gathered_with;
 use testing::possible;
 use trail::Entry;
 use trail::decided_entry;
@@ -79,7 +79,7 @@ pub fn weigh(
     let at = named.at;
     let own = Atoms { count: n, at: at };
     let free = undefined(trail, length, g);
-    let tested = gathered(trail, length, own);
+    let tested = gathered_with(trail, length, own);
     let fresh = all_undefined(tested);
     let together = possible(constants, tested);
     let number = refusal(

@@ -1,19 +1,17 @@
 -- What the constraint test says of a rule's question.
-use mathlib.Core.Path.{_∙_, _≡_, ap, refl, subst, sym, transport}
+use mathlib.Core.Path.{_∙_, _≡_, refl, subst, sym, transport}
 use mathlib.Core.Logic.{_↔_}
 use mathlib.Core.List.{List, _++_}
 use mathlib.Core.Bool.{true}
-use Prim.Native.Nat.{_+_, _<_, _≤_, ℕ}
+use Prim.Native.Nat.{_+_, _<_, ℕ}
 use native.Mathlib.Omega.{arith}
 use lib.Dec.{T}
-use Rattle.basis.specs.Atoms.{Possible, noAtom}
-use Rattle.basis.specs.Limits.{mostAtoms}
+use Rattle.basis.specs.Atoms.{Possible}
 use Rattle.basis.specs.declared.Atom.{Atom}
 use Rattle.basis.specs.declared.Witness.{Witness}
 use Rattle.basis.specs.Numbers.{whole}
 use Rattle.rules.specs.Answers.{RunOf}
 use Rattle.rules.specs.declared.Run.{Run}
-use Rattle.lists.proofs.Arrays.{take-exactly}
 use Rattle.calculus.specs.Checks.{between}
 use Rattle.calculus.specs.Clauses.{groundAtoms}
 use Rattle.calculus.specs.Handing.{tests}
@@ -29,8 +27,6 @@ use Rattle.reaching.proofs.Handing.{HandsBy, hands-shown}
 use Rattle.reaching.proofs.Reached.{AllProper}
 use Rattle.testing.proofs.Gathering.{tested-says}
 use Rattle.testing.specs.Asked.{Gathers, WitnessOf, testedAtoms}
-use Rattle.testing.specs.New.{listed, packedAtoms}
-use Rattle.testing.specs.declared.Atoms.{Atoms}
 use Rattle.testing.specs.declared.Tested.{Tested}
 use Rattle.trail.specs.Entries.{trailOf}
 use Rattle.calculus.specs.Clauses as calculus
@@ -45,10 +41,6 @@ module _ {r : Run} {s : State} (R : RunOf r s) (x : Step) {az : List Atom} {b : 
 
   pub hands : tests x ≡ true → b .given ≡ true → HandsBy s x b
   hands t e = hands-shown s x t b e (said .shown (subst T (sym e) tt))
-
--- What is gathered with the record of a clause's atoms is gathered with them.
-pub gathered-own : {w : Tested} {b : Atoms} {ts az : List Atom} → (b ≡ packedAtoms az) × (b .count ≤ mostAtoms) → Gathers w ts (listed b) → Gathers w ts az
-gathered-own {w} {b} {ts} {az} (e, few) = subst (Gathers w ts) (ap listed e ∙ take-exactly noAtom mostAtoms az (omega (arith, ap (λ (q : Atoms). q .count) e)))
 
 pub not-zero : {p : ℕ} → 0 < p → ¬ (p ≡ 0)
 not-zero h e = absurd (omega arith)

@@ -61,7 +61,6 @@ use instances::same_instance;
 use instances::two_literals;
 use testing::Atoms;
 use testing::gathered;
-use testing::ground_atoms;
 use testing::new_atoms;
 use testing::no_witness;
 use testing::possible;
@@ -251,8 +250,7 @@ impl Run {
         let trail = self.trail;
         let m = self.length as usize;
         let seen = literals_seen(trail, self.length, clause, instance, count, true, g);
-        let own = ground_atoms(clause, instance, count);
-        let tested = gathered(trail, self.length, own);
+        let tested = gathered(trail, self.length, clause, instance, count);
         let together = possible(self.constants, tested);
         let fresh = new_atoms(tested);
         let n = fresh.count as usize;
@@ -344,8 +342,7 @@ impl Run {
         let none = no_literal();
         let seen = literals_seen(trail, self.length, clause, instance, count, false, none);
         let first = seen.first;
-        let own = ground_atoms(clause, instance, count);
-        let tested = gathered(trail, self.length, own);
+        let tested = gathered(trail, self.length, clause, instance, count);
         let together = possible(self.constants, tested);
         let number = refusal(
             count as usize <= MOST_VARIABLES,
@@ -470,8 +467,7 @@ impl Run {
         let instance = n.instance;
         let trail = self.trail;
         let at = levels(trail, self.length, n, l);
-        let conflicting = ground_atoms(c, instance, c.variables);
-        let tested = gathered(trail, at.kept, conflicting);
+        let tested = gathered(trail, at.kept, c, instance, c.variables);
         let together = possible(self.constants, tested);
         let fresh = new_atoms(tested);
         let m = fresh.count as usize;

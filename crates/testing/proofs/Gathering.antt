@@ -5,7 +5,7 @@ use mathlib.Core.Bool.{false, true}
 use Prim.Native.Nat.{_+_, _<_, _≤_, suc, zero, ℕ}
 use native.Mathlib.Numerals.{add-one}
 use native.Mathlib.Omega.{arith}
-use lib.ListN.{drop, getD, length, length-append, length-take, take, take-append-drop}
+use lib.ListN.{drop, getD, length, length-append, length-take, set, take, take-append-drop}
 use lib.Seq.{drop-append-le, drop-at, getD-take, split-at, take-at, take-take}
 use Rattle.basis.specs.Atoms.{noAtom}
 use Rattle.basis.specs.Limits.{mostAtoms, mostEntries, mostTested}
@@ -15,13 +15,12 @@ use Rattle.lists.proofs.Walks.{take-more}
 use Rattle.lists.specs.Arrays.{exactly}
 use Rattle.calculus.specs.Trails as calculus
 use Rattle.calculus.specs.Trails.{Trail, atomsOf, background, foreground}
+use Rattle.instances.proofs.Others.{stored-more}
 use Rattle.trail.specs.Entries.{entryAs, entryOf, pastEnd, trailOf}
 use Rattle.trail.specs.declared.Entry.{Entry}
 use Rattle.trail.specs.declared.Kind.{Kind}
 use Rattle.trail.specs.declared.Kind.the-variants.{Background, Brought, Propagated, Decided}
 use Rattle.testing.specs.Asked.{Gathers, GathersOnce, InRoom, isBackground, knownAtoms, stepAtoms, testedAtoms}
-use Rattle.testing.specs.New.{listed, packedAtoms}
-use Rattle.testing.specs.declared.Atoms.{Atoms}
 use Rattle.testing.specs.declared.Tested.{Tested}
 
 -- ---- the walks
@@ -47,17 +46,6 @@ atoms-turn es k b = ap (λ n. atomsOf (trailOf es n)) (add-one k) ∙ atom-of (g
 pub atoms-skip : (es : List Entry) (k : ℕ) → isBackground (entryOf (getD es k pastEnd)) ≡ false → atomsOf (trailOf es (k + 1)) ≡ atomsOf (trailOf es k)
 atoms-skip es k b = ap (λ n. atomsOf (trailOf es n)) (add-one k) ∙ no-atom-of (entryOf (getD es k pastEnd)) (trailOf es k) b
 
--- The step's atoms follow.
-pub atoms-more : (before l : List Atom) (j : ℕ) → j < length l → before ++ take (j + 1) l ≡ (before ++ take j l) ++ (getD l j noAtom ∷ [])
-atoms-more before l j h = ap (λ r. before ++ r) (take-more l j noAtom h) ∙ sym (append-assoc before (take j l) (getD l j noAtom ∷ []))
-
--- What stands first in the array; at first with nothing of the step's behind it
-gathered-are : (n : ℕ) (at ts : List Atom) → n ≡ length ts → at ≡ exactly mostTested noAtom ts → length ts ≤ mostTested → take n at ≡ ts
-gathered-are n at ts p q h = ap₂ (λ (k : ℕ) r. take k r) p q ∙ take-exactly noAtom mostTested ts h
-
-pub gathered-first : (n : ℕ) (at ts : List Atom) → n ≡ length ts → at ≡ exactly mostTested noAtom ts → length ts ≤ mostTested → take n at ++ [] ≡ ts
-gathered-first n at ts p q h = append-nil (take n at) ∙ gathered-are n at ts p q h
-
 pub atoms-few : (es : List Entry) (k : ℕ) → length (atomsOf (trailOf es k)) ≤ k
 atoms-few es zero = omega arith
 atoms-few es (suc k) = omega (arith, go (entryOf (getD es k pastEnd)) (trailOf es k), atoms-few es k)
@@ -66,14 +54,41 @@ atoms-few es (suc k) = omega (arith, go (entryOf (getD es k pastEnd)) (trailOf e
     go (foreground l o) t = omega arith
     go (background a o) t = omega (arith, length-append (atomsOf t) (a ∷ []))
 
--- Both gathered, the trail's first
-pub gathered-all : {n m : ℕ} {before after ts az : List Atom} → n ≡ length ts → before ≡ exactly mostTested noAtom ts → length ts ≤ mostEntries → length az ≤ mostAtoms
-    → m ≡ length (take n before ++ az) → after ≡ exactly mostTested noAtom (take n before ++ az) → Gathers (record { known = n; count = m; atoms = after }) ts az
-gathered-all {n} {m} {before} {after} {ts} {az} p q few few-step e f =
-    let first = gathered-are n before ts p q (omega arith) in
-    let count : m ≡ length (ts ++ az) = e ∙ ap (λ r. length (r ++ az)) first in
-    let atoms : after ≡ exactly mostTested noAtom (ts ++ az) = f ∙ ap (λ r. exactly mostTested noAtom (r ++ az)) first in
-    record { few-known = few; few-step = few-step; packed = λ i. record { known = p i; count = count i; atoms = atoms i } }
+-- ---- gathered
+
+-- The trail's alone
+pub gathers-trail : {m : ℕ} {at ts : List Atom} → length ts ≤ mostEntries → m ≡ length ts → at ≡ exactly mostTested noAtom ts → Gathers (record { known = m; count = m; atoms = at }) ts []
+gathers-trail {m} {at} {ts} few p q =
+    let all = sym (append-nil ts) in
+    let count : m ≡ length (ts ++ []) = p ∙ ap length all in
+    let atoms : at ≡ exactly mostTested noAtom (ts ++ []) = q ∙ ap (exactly mostTested noAtom) all in
+    record { few-known = few; few-step = omega arith; packed = λ i. record { known = p i; count = count i; atoms = atoms i } }
+
+-- Behind the atoms that t has of a trail, u has those of a step; with them there are m.
+abbrev pub Behind : Tested → Tested → ℕ → List Atom → Type 0
+Behind t u m az = (ts : List Atom) → Gathers t ts [] → Gathers (record { known = u .known; count = m; atoms = u .atoms }) ts az
+
+pub behind-none : (t : Tested) → Behind t t (t .known) []
+behind-none t ts G =
+    gathers-trail (G .few-known) (ap (λ (u : Tested). u .known) (G .packed)) (ap (λ (u : Tested). u .atoms) (G .packed) ∙ ap (exactly mostTested noAtom) (append-nil ts))
+
+-- One more of the step's
+pub behind-more : (t u : Tested) (m : ℕ) (az bz : List Atom) (a : Atom) → Behind t u m az → length az < mostAtoms → bz ≡ az ++ (a ∷ [])
+    → Behind t (record { known = u .known; count = u .count; atoms = set (u .atoms) m a }) (m + 1) bz
+behind-more t u m az bz a B h e ts G =
+    let H = B ts G in
+    let more =
+    stored-more noAtom mostTested m (u .atoms) (ts ++ az) (ts ++ bz) a (ap (λ (r : Tested). r .count) (H .packed)) (ap (λ (r : Tested). r .atoms) (H .packed))
+    (omega (arith, length-append ts az, H .few-known)) (ap (λ r. ts ++ r) e ∙ sym (append-assoc ts az (a ∷ []))) in
+    record {
+      few-known = H .few-known;
+      few-step = omega (arith, ap length e, length-append az (a ∷ []));
+      packed = λ i. record { known = H .packed i .known; count = more .0 i; atoms = more .1 i };
+    }
+
+-- All of the step's
+pub gathers-all : {t : Tested} {ts az bz : List Atom} → az ≡ bz → Gathers t ts az → Gathers t ts bz
+gathers-all {t} {ts} = subst (Gathers t ts)
 
 -- ---- the known atoms, which are the first i, and behind them the step's up to the first j
 
@@ -97,6 +112,9 @@ module _ {t : Tested} {ts az : List Atom} (G : Gathers t ts az) where
   few : length (ts ++ az) ≤ mostTested
   few = omega (arith, length-append ts az, G .few-known, G .few-step)
 
+  pub known-few : t .known ≤ mostEntries
+  known-few = omega (arith, ap (λ (u : Tested). u .known) (G .packed), G .few-known)
+
   pub tested-says : testedAtoms t ≡ ts ++ az
   tested-says = ap testedAtoms (G .packed) ∙ take-exactly noAtom mostTested (ts ++ az) few
 
@@ -115,13 +133,3 @@ module _ {t : Tested} {ts az : List Atom} (G : Gathers t ts az) where
 
 pub gathers-once : GathersOnce
 gathers-once t u ts az a b = a .packed ∙ sym (b .packed)
-
--- ---- a step's record
-
--- It lists its atoms, so they are those that are gathered.
-module _ {b : Atoms} {az : List Atom} (p : b ≡ packedAtoms az) (few : b .count ≤ mostAtoms) where
-  pub listed-says : listed b ≡ az
-  listed-says = ap listed p ∙ take-exactly noAtom mostAtoms az (omega (arith, ap (λ (q : Atoms). q .count) p))
-
-  pub gathers-listed : {t : Tested} {ts : List Atom} → Gathers t ts (listed b) → Gathers t ts az
-  gathers-listed {t} {ts} = subst (Gathers t ts) listed-says

@@ -1,5 +1,6 @@
 // What the constraint test is asked: the trail's atoms from the first entry on, then the step's; and which of them are new.
 ghost use mathlib.Core.Path.{_≡_};
+ghost use mathlib.Core.List.{[]};
 ghost use Prim.Native.Nat.{_≤_};
 ghost use lib.ListN.{take};
 ghost use Rattle.basis.specs.Limits.{mostAtoms, mostEntries, mostTested};
@@ -36,7 +37,7 @@ pub struct Tested {
     pub atoms: [Atom; MOST_TESTED],
 }
 
-// The atoms of a step, blank past their count: its clause's, those it brings, or those not yet on the trail
+// The atoms of a step, blank past their count: those it brings, or those not yet on the trail
 pub struct Atoms {
     pub count: u8,
     pub at: [Atom; MOST_ATOMS],
@@ -55,32 +56,12 @@ fn is_background(e: Entry) -> bool
     }
 }
 
-// The atoms of a clause's instance, in clause order: at most 24
-pub fn ground_atoms(clause: Clause, instance: [u8; MOST_VARIABLES], count: u8) -> Atoms
-    ensures { λ r. ⌜ (r ≡ packedAtoms (groundAtoms (take count instance) (clauseOf clause .atoms))) × (r .count ≤ mostAtoms) ⌝ }
-{
-    let n = atoms_of(clause);
-    let blank = no_atom();
-    let mut at = [blank; MOST_ATOMS];
-    let mut j = 0;
-    while j < n {
-        let a = clause.atoms[j];
-        at[j] = ground_atom(a, instance, count);
-        j += 1;
-    }
-    Atoms {
-        count: n as u8,
-        at: at,
-    }
-}
-
-// "trail atoms and the clause's atoms": the trail's from the first entry on, then the step's in order
-pub fn gathered(trail: [Entry; MOST_ENTRIES], length: u8, step: Atoms) -> Tested
-    requires { ⌜ (length ≤ mostEntries) × (step .count ≤ mostAtoms) ⌝ }
-    ensures { λ r. ⌜ Gathers r (atomsOf (trailOf trail length)) (listed step) ⌝ }
+// The trail's atoms, from the first entry on, and none of a step
+fn trail_gathered(trail: [Entry; MOST_ENTRIES], length: u8) -> Tested
+    requires { ⌜ length ≤ mostEntries ⌝ }
+    ensures { λ r. ⌜ Gathers r (atomsOf (trailOf trail length)) [] ⌝ }
 {
     let n = length as usize;
-    let own = step.count as usize;
     let blank = no_atom();
     let mut tested = Tested {
         known: 0,
@@ -99,6 +80,43 @@ pub fn gathered(trail: [Entry; MOST_ENTRIES], length: u8, step: Atoms) -> Tested
         }
     }
     tested.known = m as u8;
+    tested.count = m as u8;
+    tested
+}
+
+// "trail atoms and the clause's atoms": the trail's, then those of the clause's instance in clause order
+pub fn gathered(
+    trail: [Entry; MOST_ENTRIES],
+    length: u8,
+    clause: Clause,
+    instance: [u8; MOST_VARIABLES],
+    count: u8,
+) -> Tested
+    requires { ⌜ length ≤ mostEntries ⌝ }
+    ensures { λ r. ⌜ Gathers r (atomsOf (trailOf trail length)) (groundAtoms (take count instance) (clauseOf clause .atoms)) ⌝ }
+{
+    let own = atoms_of(clause);
+    let mut tested = trail_gathered(trail, length);
+    let mut m = tested.known as usize;
+    let mut j = 0;
+    while j < own {
+        let b = clause.atoms[j];
+        tested.atoms[m] = ground_atom(b, instance, count);
+        m += 1;
+        j += 1;
+    }
+    tested.count = m as u8;
+    tested
+}
+
+// The trail's, then those that a step brings, in order
+pub fn gathered_with(trail: [Entry; MOST_ENTRIES], length: u8, step: Atoms) -> Tested
+    requires { ⌜ (length ≤ mostEntries) × (step .count ≤ mostAtoms) ⌝ }
+    ensures { λ r. ⌜ Gathers r (atomsOf (trailOf trail length)) (listed step) ⌝ }
+{
+    let own = step.count as usize;
+    let mut tested = trail_gathered(trail, length);
+    let mut m = tested.known as usize;
     let mut j = 0;
     while j < own {
         let b = step.at[j];

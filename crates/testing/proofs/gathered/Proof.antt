@@ -1,100 +1,54 @@
--- Of the entries passed the atoms are gathered; then the step's atoms passed behind them.
-use mathlib.Core.Path.{_≡_, _∙_, ap, refl, sym}
-use mathlib.Core.List.{_++_}
-use Prim.Native.Nat.{_+_, _≤_, _-_}
+-- Behind the trail's atoms stand the instances of those of the clause that are passed.
+use mathlib.Core.Path.{_≡_, _∙_, ap, sym}
+use mathlib.Core.List.{[], _∷_, _++_, map}
+use Prim.Native.Nat.{_+_, _<_, _≤_, _-_}
 use native.Mathlib.Omega.{arith}
-use lib.ListN.{length, length-map, length-take, replicate, take}
+use lib.ListN.{length, length-map, length-take, take}
 use borrow.Author.Needs.{needs}
 use Rattle.basis.specs.Atoms.{noAtom}
-use Rattle.basis.specs.Limits.{mostAtoms, mostEntries, mostTested}
-use Rattle.lists.proofs.Arrays.{exactly-none}
-use Rattle.lists.specs.Arrays.{exactly}
-use Rattle.calculus.specs.Trails.{atomsOf}
-use Rattle.instances.proofs.Others.{stored-more}
-use Rattle.trail.specs.Entries.{trailOf}
-use Rattle.testing.proofs.Gathering.{atoms-few, atoms-more, atoms-skip, atoms-turn, gathered-all, gathered-first}
+use Rattle.basis.specs.Limits.{mostAtoms, mostEntries}
+use Rattle.lists.proofs.Walks.{map-more}
+use Rattle.calculus.specs.Clauses.{groundAtoms, renameAtom, under}
+use Rattle.testing.proofs.Gathering.{Behind, behind-more, behind-none, gathers-all, known-few}
 use Rattle.testing.proofs.gathered.Statement.{statement}
 use Rattle.testing.proofs.gathered.Tie as tie
 
 abbrev Inv-loop : tie.InvT-loop
-Inv-loop len trail step n own tested₀ m₀ left₀ tested m left =
-    (left ≤ n) × (n ≤ mostEntries) × (m + left ≤ n) × (m ≡ length (atomsOf (trailOf trail (n - left)))) ×
-    (tested .atoms ≡ exactly mostTested noAtom (atomsOf (trailOf trail (n - left))))
+Inv-loop len instance count clause own tested₀ m₀ j₀ tested m j =
+    (j ≤ own) × (m ≤ mostEntries + j) × Behind tested₀ tested m (groundAtoms (take count instance) (take j (clause .atoms)))
 
 abbrev μ-loop : tie.MeasureT-loop
-μ-loop len trail step n own tested₀ m₀ left₀ tested m left = left
+μ-loop len instance count clause own tested₀ m₀ j₀ tested m j = own - j
 
-abbrev Inv-loop2 : tie.InvT-loop2
-Inv-loop2 len step n own tested₀ m₀ left j₀ tested m j =
-    (j ≤ own) × (m ≤ m₀ + j) × (m ≡ length (take m₀ (tested₀ .atoms) ++ take j (step .at))) ×
-    (tested .atoms ≡ exactly mostTested noAtom (take m₀ (tested₀ .atoms) ++ take j (step .at))) × (tested .known ≡ m₀)
+loop-holds : tie.Need-loop-holds Inv-loop μ-loop
+loop-holds c = (omega arith, known-few (c .trail-gathered .ensures), behind-none (c .trail-gathered .result))
 
-abbrev μ-loop2 : tie.MeasureT-loop2
-μ-loop2 len step n own tested₀ m₀ left j₀ tested m j = own - j
+element-set-from-tested : tie.Need-element-set-from-tested Inv-loop μ-loop
+element-set-from-tested c = omega (arith, c .before .before .before .before .before .atoms-of .ensures .few)
 
-loop-holds : tie.Need-loop-holds Inv-loop μ-loop Inv-loop2 μ-loop2
-loop-holds c =
-    let none : c .before .args .length - c .before .args .length ≡ 0 = omega arith in (
-      omega arith,
-      search needs,
-      omega arith,
-      rw none,
-      rw none (ap (replicate mostTested) (c .no-atom .ensures) ∙ sym (exactly-none noAtom mostTested)),
-    )
-
-loop-again : tie.Need-loop-again Inv-loop μ-loop Inv-loop2 μ-loop2
+loop-again : tie.Need-loop-again Inv-loop μ-loop
 loop-again c =
-    let args = c .before .before .before .before .before .before .before .args in
-    let loop = c .before .before .before .before .before .loop in
-    let k = args .length - loop .left in
-    let next : args .length - (loop .left - 1) ≡ k + 1 = omega arith in
-    let t =
-    stored-more noAtom mostTested (loop .m) (loop .tested .atoms) (atomsOf (trailOf (args .t1) k)) _ _ (loop .inv .3) (loop .inv .4) (omega arith)
-    (atoms-turn (args .t1) k (sym (c .before .before .is-background .ensures) ∙ c .before .if1 .taken)) in
-    rw next (omega arith, search needs, omega arith, t .0, t .1)
-
-loop-again-2 : tie.Need-loop-again-2 Inv-loop μ-loop Inv-loop2 μ-loop2
-loop-again-2 c =
     let args = c .before .before .before .before .before .before .args in
-    let loop = c .before .before .before .before .loop in
-    let k = args .length - loop .left in
-    let next : args .length - (loop .left - 1) ≡ k + 1 = omega arith in
-    let e = atoms-skip (args .t1) k (sym (c .before .is-background .ensures) ∙ c .if1 .left) in
-    rw next (omega arith, search needs, omega arith, loop .inv .3 ∙ ap length (sym e), loop .inv .4 ∙ ap (exactly mostTested noAtom) (sym e))
+    let own = c .before .before .before .before .before .atoms-of .ensures in
+    let loop = c .before .before .before .loop in
+    let f = renameAtom (under (take (args .count) (args .instance))) in
+    let l = args .t3 .atoms in
+    let az = map f (take (loop .j) l) in
+    let few : length az < mostAtoms = omega (arith, own .few, length-map (take (loop .j) l) f, length-take (loop .j) l) in
+    let more = map-more f l (loop .j) noAtom (omega (arith, own .few, own .long)) ∙ ap (λ a. az ++ (a ∷ [])) (sym (c .ground-atom .ensures)) in
+    (omega arith, omega arith, behind-more _ (loop .tested) (loop .m) az _ _ (loop .inv .2) few more)
 
-loop2-holds : tie.Need-loop2-holds Inv-loop μ-loop Inv-loop2 μ-loop2
-loop2-holds c =
-    let loop = c .before .loop in
-    let e = gathered-first (loop .m) (loop .tested .atoms) _ (loop .inv .3) (loop .inv .4) (omega arith) in
-    (omega arith, omega arith, loop .inv .3 ∙ ap length (sym e), loop .inv .4 ∙ ap (exactly mostTested noAtom) (sym e), refl)
+cast-tested : tie.Need-cast-tested Inv-loop μ-loop
+cast-tested c = omega (arith, c .before .before .before .atoms-of .ensures .few)
 
-loop2-again : tie.Need-loop2-again Inv-loop μ-loop Inv-loop2 μ-loop2
-loop2-again c =
-    let first = c .before .before .before .before .before .before in
-    let args = first .args in
-    let long : length (args .t3 .at) ≡ mostAtoms = simp length-map at (first .good .1 .1 .0 .1 .1 .1 .0 .1 .0 .1) in
-    let passed = c .before .before .before .before .loop in
-    let loop = c .before .before .loop2 in
-    let before = take (passed .m) (passed .tested .atoms) in
-    let t =
-    stored-more noAtom mostTested (loop .m) (loop .tested .atoms) (before ++ take (loop .j) (args .t3 .at)) _ _ (loop .inv .2) (loop .inv .3) (omega arith)
-    (atoms-more before (args .t3 .at) (loop .j) (omega arith)) in
-    (omega arith, omega arith, t .0, t .1, loop .inv .4)
-
-returns : tie.Need-returns Inv-loop μ-loop Inv-loop2 μ-loop2
+returns : tie.Need-returns Inv-loop μ-loop
 returns c =
-    let args = c .before .before .before .before .before .args in
-    let first = c .before .before .before .loop in
-    let loop = c .before .loop2 in
-    let passed : args .length - first .left ≡ args .length = omega arith in
-    let all : loop .j ≡ args .t3 .count = omega arith in
-    let before = take (first .m) (first .tested .atoms) in
-    rw (loop .inv .4)
-    (gathered-all (first .inv .3 ∙ ap (λ k. length (atomsOf (trailOf (args .t1) k))) passed)
-    (first .inv .4 ∙ ap (λ k. exactly mostTested noAtom (atomsOf (trailOf (args .t1) k))) passed) (omega (arith, atoms-few (args .t1) (args .length)))
-    (omega (arith, length-take (args .t3 .count) (args .t3 .at)))
-    (loop .inv .2 ∙ ap (λ k. length (before ++ take k (args .t3 .at))) all)
-    (loop .inv .3 ∙ ap (λ k. exactly mostTested noAtom (before ++ take k (args .t3 .at))) all))
+    let args = c .before .before .before .before .args in
+    let own = c .before .before .before .atoms-of in
+    let loop = c .before .loop in
+    let all : loop .j ≡ own .result = omega arith in
+    let same = ap (λ k. take k (args .t3 .atoms)) all ∙ own .ensures .same in
+    gathers-all (ap (groundAtoms (take (args .count) (args .instance))) same) (loop .inv .2 _ (c .before .before .trail-gathered .ensures))
 
 pub gathered-spec : {M : Type 1} → statement M
 gathered-spec =
@@ -102,32 +56,18 @@ gathered-spec =
     (tie.spec
     Inv-loop
     μ-loop
-    Inv-loop2
-    μ-loop2
-    (λ c. search needs)
     (λ c κs. search needs)
+    (λ c κs. search needs)
+    (λ c. search needs)
     loop-holds
     (λ c. search needs)
     (λ c. search needs)
-    (λ c. search needs)
-    (λ c. search needs)
     (λ c κs. search needs)
     (λ c. search needs)
+    element-set-from-tested
     (λ c. search needs)
     (λ c. search needs)
     (λ c. search needs)
     loop-again
-    (λ c. search needs)
-    loop-again-2
-    (λ c. search needs)
-    loop2-holds
-    (λ c. search needs)
-    (λ c. search needs)
-    (λ c. search needs)
-    (λ c. search needs)
-    (λ c. search needs)
-    (λ c. search needs)
-    (λ c. search needs)
-    loop2-again
-    (λ c. search needs)
+    cast-tested
     returns)

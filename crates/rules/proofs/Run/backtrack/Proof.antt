@@ -1,7 +1,6 @@
 use native.Mathlib.Omega.{arith}
 use borrow.Author.Needs.{needs}
 use Rattle.rules.proofs.Runs.{kept-small}
-use Rattle.rules.proofs.Testing.{gathered-own}
 use Rattle.rules.proofs.Backtracking.{backtrack-refused, backtrack-fits, backtrack-told, kept-below}
 use Rattle.testing.proofs.Gathering.{in-room}
 use Rattle.rules.proofs.Run.backtrack.Statement.{statement}
@@ -12,8 +11,8 @@ levels-requires c κs = kept-small (c .before .before .before .before .pre) .few
 
 gathered-requires : tie.Need-gathered-requires
 gathered-requires c κs =
-    let first = c .before .before .before .before .before .before in
-    (omega (arith, kept-small (first .pre) .few-entries, kept-below (first .args .self) (first .args .l) (c .before .levels .ensures)), c .ground-atoms .ensures .1)
+    let first = c .before .before .before .before .before in
+    omega (arith, kept-small (first .pre) .few-entries, kept-below (first .args .self) (first .args .l) (c .levels .ensures))
 
 possible-requires : tie.Need-possible-requires
 possible-requires c κs = in-room (c .gathered .ensures) .few
@@ -36,19 +35,18 @@ returns c =
     let at-new-atoms = at-literal-exists .before .before .before in
     let at-possible = at-new-atoms .before in
     let at-gathered = at-possible .before in
-    let at-ground-atoms = at-gathered .before in
-    let at-levels = at-ground-atoms .before in
-    rw (c .refused .ensures) (λ s R. backtrack-refused R _ _ _ (at-literal-exists .literal-exists .ensures) (at-again .again .ensures) _ (at-levels .levels .ensures) _ (gathered-own (at-ground-atoms .ground-atoms .ensures) (at-gathered .gathered .ensures)) (at-possible .possible .result) (at-possible .possible .ensures) _ (at-new-atoms .new-atoms .ensures)
+    let at-levels = at-gathered .before in
+    rw (c .refused .ensures) (λ s R. backtrack-refused R _ _ _ (at-literal-exists .literal-exists .ensures) (at-again .again .ensures) _ (at-levels .levels .ensures) _ (at-gathered .gathered .ensures) (at-possible .possible .result) (at-possible .possible .ensures) _ (at-new-atoms .new-atoms .ensures)
     (at-refusal .refusal .ensures) (at-refusal2 .refusal2 .ensures) (at-refusal3 .refusal3 .ensures) (at-refusal4 .refusal4 .ensures) (at-refusal5 .refusal5 .ensures) (at-refusal6 .refusal6 .ensures) (at-refusal7 .refusal7 .ensures) (at-if1 .if1 .taken))
 
 add-own : tie.Need-add-own
-add-own c = let h = kept-small (c .before .before .before .before .before .before .before .before .before .before .before .before .before .before .before .before .before .before .before .before .before .before .before .before .pre) in omega (arith, h .few-input, h .few-learned)
+add-own c = let h = kept-small (c .before .before .before .before .before .before .before .before .before .before .before .before .before .before .before .before .before .before .before .before .before .before .before .pre) in omega (arith, h .few-input, h .few-learned)
 
 add-own-2 : tie.Need-add-own-2
-add-own-2 c = let h = kept-small (c .before .before .before .before .before .before .before .before .before .before .before .before .before .before .before .before .before .before .before .before .before .before .before .before .pre) in omega (arith, h .few-input, h .few-learned)
+add-own-2 c = let h = kept-small (c .before .before .before .before .before .before .before .before .before .before .before .before .before .before .before .before .before .before .before .before .before .before .before .pre) in omega (arith, h .few-input, h .few-learned)
 
 add-self : tie.Need-add-self
-add-self c = omega (arith, kept-small (c .before .before .before .before .before .before .before .before .before .before .before .before .before .before .before .before .before .before .before .before .before .before .before .before .before .before .before .pre) .few-learned)
+add-self c = omega (arith, kept-small (c .before .before .before .before .before .before .before .before .before .before .before .before .before .before .before .before .before .before .before .before .before .before .before .before .before .before .pre) .few-learned)
 
 appended-requires : tie.Need-appended-requires
 appended-requires c κs =
@@ -66,10 +64,9 @@ appended-requires c κs =
     let at-new-atoms = at-literal-exists .before .before .before in
     let at-possible = at-new-atoms .before in
     let at-gathered = at-possible .before in
-    let at-ground-atoms = at-gathered .before in
-    let at-levels = at-ground-atoms .before in
+    let at-levels = at-gathered .before in
     let first = at-levels .before .before .before .before .before in
-    let h = backtrack-fits (first .pre .1) _ _ _ (at-literal-exists .literal-exists .ensures) (at-again .again .ensures) _ (at-levels .levels .ensures) _ (gathered-own (at-ground-atoms .ground-atoms .ensures) (at-gathered .gathered .ensures)) (at-possible .possible .result) (at-possible .possible .ensures) _ (at-new-atoms .new-atoms .ensures)
+    let h = backtrack-fits (first .pre .1) _ _ _ (at-literal-exists .literal-exists .ensures) (at-again .again .ensures) _ (at-levels .levels .ensures) _ (at-gathered .gathered .ensures) (at-possible .possible .result) (at-possible .possible .ensures) _ (at-new-atoms .new-atoms .ensures)
     (at-refusal .refusal .ensures) (at-refusal2 .refusal2 .ensures) (at-refusal3 .refusal3 .ensures) (at-refusal4 .refusal4 .ensures) (at-refusal5 .refusal5 .ensures) (at-refusal6 .refusal6 .ensures) (at-refusal7 .refusal7 .ensures) (at-if1 .if1 .left) in (h .0, h .1, kept-small (first .pre) .few-entries)
 
 returns-2 : tie.Need-returns-2
@@ -90,9 +87,8 @@ returns-2 c =
     let at-new-atoms = at-literal-exists .before .before .before in
     let at-possible = at-new-atoms .before in
     let at-gathered = at-possible .before in
-    let at-ground-atoms = at-gathered .before in
-    let at-levels = at-ground-atoms .before in
-    rw (c .appended .ensures) (λ s R. backtrack-told R _ _ _ (at-literal-exists .literal-exists .ensures) (at-again .again .ensures) _ (at-levels .levels .ensures) _ (gathered-own (at-ground-atoms .ground-atoms .ensures) (at-gathered .gathered .ensures)) (at-possible .possible .result) (at-possible .possible .ensures) _ (at-new-atoms .new-atoms .ensures)
+    let at-levels = at-gathered .before in
+    rw (c .appended .ensures) (λ s R. backtrack-told R _ _ _ (at-literal-exists .literal-exists .ensures) (at-again .again .ensures) _ (at-levels .levels .ensures) _ (at-gathered .gathered .ensures) (at-possible .possible .result) (at-possible .possible .ensures) _ (at-new-atoms .new-atoms .ensures)
     (at-refusal .refusal .ensures) (at-refusal2 .refusal2 .ensures) (at-refusal3 .refusal3 .ensures) (at-refusal4 .refusal4 .ensures) (at-refusal5 .refusal5 .ensures) (at-refusal6 .refusal6 .ensures) (at-refusal7 .refusal7 .ensures) (at-if1 .if1 .left) _ (at-conflict-instance .conflict-instance .ensures) _ (at-propagated-entry .propagated-entry .ensures) _ (at-no-instanced .no-instanced .ensures))
 
 pub backtrack-spec : {M : Type 1} → statement M
@@ -100,7 +96,6 @@ backtrack-spec =
     tie.close
     (tie.spec
     levels-requires
-    (λ c κs. search needs)
     gathered-requires
     possible-requires
     new-atoms-requires

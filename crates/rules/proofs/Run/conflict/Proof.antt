@@ -1,6 +1,5 @@
 use mathlib.Core.Path.{ap}
 use Rattle.rules.proofs.Runs.{kept-small}
-use Rattle.rules.proofs.Testing.{gathered-own}
 use Rattle.testing.proofs.Gathering.{in-room}
 use Rattle.rules.proofs.Conflicting.{conflict-answered}
 use borrow.Author.Needs.{needs}
@@ -15,7 +14,7 @@ literals-seen-requires : tie.Need-literals-seen-requires
 literals-seen-requires c κs = kept-small (c .before .before .before .before .before .pre .0, c .before .before .before .before .before .pre .1) .few-entries
 
 gathered-requires : tie.Need-gathered-requires
-gathered-requires c κs = (kept-small (c .before .before .before .before .before .before .before .pre .0, c .before .before .before .before .before .before .before .pre .1) .few-entries, c .ground-atoms .ensures .1)
+gathered-requires c κs = kept-small (c .before .before .before .before .before .before .pre .0, c .before .before .before .before .before .before .pre .1) .few-entries
 
 possible-requires : tie.Need-possible-requires
 possible-requires c κs = in-room (c .gathered .ensures) .few
@@ -29,13 +28,12 @@ returns c =
     let at-refusal = at-refusal2 .before in
     let at-possible = at-refusal .before .before in
     let at-gathered = at-possible .before in
-    let at-ground-atoms = at-gathered .before in
-    let at-literals-seen = at-ground-atoms .before in
+    let at-literals-seen = at-gathered .before in
     let at-no-literal = at-literals-seen .before in
     let at-instance-named = at-no-literal .before .before in
     let at-first-constants = at-instance-named .before in
     let first = at-first-constants .before .before in
-    λ s R looks. conflict-answered R (first .args .looked) _ _ (first .args .instance) (let g = first .good .1 .1 .1 .0 in search needs) looks _ (at-instance-named .instance-named .ensures) (at-no-literal .no-literal .result) _ (ap (λ (u : LiteralsSeen). u .first) (at-literals-seen .literals-seen .ensures)) _ (gathered-own (at-ground-atoms .ground-atoms .ensures) (at-gathered .gathered .ensures)) (at-possible .possible .result) (at-possible .possible .ensures)
+    λ s R looks. conflict-answered R (first .args .looked) _ _ (first .args .instance) (let g = first .good .1 .1 .1 .0 in search needs) looks _ (at-instance-named .instance-named .ensures) (at-no-literal .no-literal .result) _ (ap (λ (u : LiteralsSeen). u .first) (at-literals-seen .literals-seen .ensures)) _ (at-gathered .gathered .ensures) (at-possible .possible .result) (at-possible .possible .ensures)
     (at-refusal .refusal .ensures) (at-refusal2 .refusal2 .ensures) (at-refusal3 .refusal3 .ensures) (at-refusal4 .refusal4 .ensures) (at-refusal5 .refusal5 .ensures) _ (at-first-constants .first-constants .ensures) (c .taken-up .ensures)
 
 pub conflict-spec : {M : Type 1} → statement M
@@ -46,7 +44,6 @@ conflict-spec =
     instance-named-requires
     (λ c κs. search needs)
     literals-seen-requires
-    (λ c κs. search needs)
     gathered-requires
     possible-requires
     (λ c κs. search needs)

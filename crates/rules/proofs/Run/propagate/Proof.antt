@@ -1,5 +1,4 @@
 use Rattle.rules.proofs.Runs.{kept-small}
-use Rattle.rules.proofs.Testing.{gathered-own}
 use Rattle.rules.proofs.Propagating.{propagate-refused, propagate-fits, propagate-told}
 use native.Mathlib.Omega.{arith}
 use Rattle.rules.proofs.Growing.{few-new}
@@ -15,7 +14,7 @@ literals-seen-requires : tie.Need-literals-seen-requires
 literals-seen-requires c κs = kept-small (c .before .before .before .before .before .pre .0, c .before .before .before .before .before .pre .1) .few-entries
 
 gathered-requires : tie.Need-gathered-requires
-gathered-requires c κs = (kept-small (c .before .before .before .before .before .before .before .pre .0, c .before .before .before .before .before .before .before .pre .1) .few-entries, c .ground-atoms .ensures .1)
+gathered-requires c κs = kept-small (c .before .before .before .before .before .before .pre .0, c .before .before .before .before .before .before .pre .1) .few-entries
 
 possible-requires : tie.Need-possible-requires
 possible-requires c κs = in-room (c .gathered .ensures) .few
@@ -26,7 +25,7 @@ new-atoms-requires c κs = in-room (c .before .gathered .ensures)
 add-refusal : tie.Need-add-refusal
 add-refusal c =
     let at-gathered = c .before .before .before .before .before in
-    let first = at-gathered .before .before .before .before .before .before .before .before in
+    let first = at-gathered .before .before .before .before .before .before .before in
     omega (arith, kept-small (first .pre .0, first .pre .1) .few-entries, few-new (at-gathered .gathered .ensures) (c .before .before .before .new-atoms .ensures))
 
 returns : tie.Need-returns
@@ -42,12 +41,11 @@ returns c =
     let at-new-atoms = at-refusal .before .before .before .before in
     let at-possible = at-new-atoms .before in
     let at-gathered = at-possible .before in
-    let at-ground-atoms = at-gathered .before in
-    let at-literals-seen = at-ground-atoms .before in
+    let at-literals-seen = at-gathered .before in
     let at-literal-instance = at-literals-seen .before .before .before in
     let at-literal-named = at-literal-instance .before in
     let first = at-literal-named .before .before in
-    rw (c .refused-at .ensures) (λ s R looks. propagate-refused R (first .args .looked) _ _ _ (first .args .instance) (let g = first .good .1 .1 .1 .1 .0 in search needs) looks _ (at-literal-named .literal-named .ensures) _ (at-literal-instance .literal-instance .ensures) _ (at-literals-seen .literals-seen .ensures) _ (gathered-own (at-ground-atoms .ground-atoms .ensures) (at-gathered .gathered .ensures)) (at-possible .possible .result) (at-possible .possible .ensures) _ (at-new-atoms .new-atoms .ensures)
+    rw (c .refused-at .ensures) (λ s R looks. propagate-refused R (first .args .looked) _ _ _ (first .args .instance) (let g = first .good .1 .1 .1 .1 .0 in search needs) looks _ (at-literal-named .literal-named .ensures) _ (at-literal-instance .literal-instance .ensures) _ (at-literals-seen .literals-seen .ensures) _ (at-gathered .gathered .ensures) (at-possible .possible .result) (at-possible .possible .ensures) _ (at-new-atoms .new-atoms .ensures)
     (at-refusal .refusal .ensures) (at-refusal2 .refusal2 .ensures) (at-refusal3 .refusal3 .ensures) (at-refusal4 .refusal4 .ensures) (at-refusal5 .refusal5 .ensures) (at-refusal6 .refusal6 .ensures) (at-refusal7 .refusal7 .ensures) (at-if1 .if1 .taken))
 
 appended-requires : tie.Need-appended-requires
@@ -64,12 +62,11 @@ appended-requires c κs =
     let at-new-atoms = at-refusal .before .before .before .before in
     let at-possible = at-new-atoms .before in
     let at-gathered = at-possible .before in
-    let at-ground-atoms = at-gathered .before in
-    let at-literals-seen = at-ground-atoms .before in
+    let at-literals-seen = at-gathered .before in
     let at-literal-instance = at-literals-seen .before .before .before in
     let at-literal-named = at-literal-instance .before in
     let first = at-literal-named .before .before in
-    propagate-fits (first .pre .1) (first .args .looked) (first .args .c) (first .args .l) (first .args .count) (first .args .instance) (let g = first .good .1 .1 .1 .1 .0 in search needs) (first .pre .2) _ (at-literal-named .literal-named .ensures) _ (at-literal-instance .literal-instance .ensures) _ (at-literals-seen .literals-seen .ensures) _ (gathered-own (at-ground-atoms .ground-atoms .ensures) (at-gathered .gathered .ensures)) (at-possible .possible .result) (at-possible .possible .ensures) _ (at-new-atoms .new-atoms .ensures)
+    propagate-fits (first .pre .1) (first .args .looked) (first .args .c) (first .args .l) (first .args .count) (first .args .instance) (let g = first .good .1 .1 .1 .1 .0 in search needs) (first .pre .2) _ (at-literal-named .literal-named .ensures) _ (at-literal-instance .literal-instance .ensures) _ (at-literals-seen .literals-seen .ensures) _ (at-gathered .gathered .ensures) (at-possible .possible .result) (at-possible .possible .ensures) _ (at-new-atoms .new-atoms .ensures)
     (at-refusal .refusal .ensures) (at-refusal2 .refusal2 .ensures) (at-refusal3 .refusal3 .ensures) (at-refusal4 .refusal4 .ensures) (at-refusal5 .refusal5 .ensures) (at-refusal6 .refusal6 .ensures) (at-refusal7 .refusal7 .ensures) (at-if1 .if1 .left)
 
 returns-2 : tie.Need-returns-2
@@ -86,12 +83,11 @@ returns-2 c =
     let at-new-atoms = at-refusal .before .before .before .before in
     let at-possible = at-new-atoms .before in
     let at-gathered = at-possible .before in
-    let at-ground-atoms = at-gathered .before in
-    let at-literals-seen = at-ground-atoms .before in
+    let at-literals-seen = at-gathered .before in
     let at-literal-instance = at-literals-seen .before .before .before in
     let at-literal-named = at-literal-instance .before in
     let first = at-literal-named .before .before in
-    rw (c .appended .ensures) (λ s R looks. propagate-told R (first .args .looked) _ _ _ (first .args .instance) (let g = first .good .1 .1 .1 .1 .0 in search needs) looks _ (at-literal-named .literal-named .ensures) _ (at-literal-instance .literal-instance .ensures) _ (at-literals-seen .literals-seen .ensures) _ (gathered-own (at-ground-atoms .ground-atoms .ensures) (at-gathered .gathered .ensures)) (at-possible .possible .result) (at-possible .possible .ensures) _ (at-new-atoms .new-atoms .ensures)
+    rw (c .appended .ensures) (λ s R looks. propagate-told R (first .args .looked) _ _ _ (first .args .instance) (let g = first .good .1 .1 .1 .1 .0 in search needs) looks _ (at-literal-named .literal-named .ensures) _ (at-literal-instance .literal-instance .ensures) _ (at-literals-seen .literals-seen .ensures) _ (at-gathered .gathered .ensures) (at-possible .possible .result) (at-possible .possible .ensures) _ (at-new-atoms .new-atoms .ensures)
     (at-refusal .refusal .ensures) (at-refusal2 .refusal2 .ensures) (at-refusal3 .refusal3 .ensures) (at-refusal4 .refusal4 .ensures) (at-refusal5 .refusal5 .ensures) (at-refusal6 .refusal6 .ensures) (at-refusal7 .refusal7 .ensures) (at-if1 .if1 .left) _ (at-propagated-entry .propagated-entry .ensures))
 
 pub propagate-spec : {M : Type 1} → statement M
@@ -102,7 +98,6 @@ propagate-spec =
     (λ c κs. search needs)
     (λ c. search needs)
     literals-seen-requires
-    (λ c κs. search needs)
     gathered-requires
     possible-requires
     new-atoms-requires
