@@ -89,13 +89,13 @@ namedAt s x = namedOf s (atomsLooked s x)
 
 -- ---- as whoever owns the table finds it
 
--- .. told from the last entry's record and the step's
-abbrev pub numberLooked : Entry → Step → ℕ
-numberLooked e x =
-    cond (eqb (x .rule) 1) (x .clause)
-    (cond (eqb (x .rule) 2) (x .clause)
-    (cond (eqb (x .rule) 3) (x .clause)
-    (cond (eqb (x .rule) 4) (cond (isPropagated (e .kind)) (e .clause) 0)
+-- .. told from the last entry's record, the step's rule and the clause that it names
+abbrev pub numberLooked : Entry → (rule clause : ℕ) → ℕ
+numberLooked e rule clause =
+    cond (eqb rule 1) clause
+    (cond (eqb rule 2) clause
+    (cond (eqb rule 3) clause
+    (cond (eqb rule 4) (cond (isPropagated (e .kind)) (e .clause) 0)
     0)))
 
 -- The slot of a clause's number in the table; of a number that no table has, the first

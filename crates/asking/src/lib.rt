@@ -231,14 +231,13 @@ fn clause_named(e: Entry) -> u8
 }
 
 // The number of the clause that a step looks at: the named one; Resolve looks at that of the last entry's step. 0 where it looks at none.
-pub fn number_looked(last: Entry, x: Step) -> u8
-    ensures { λ r. ⌜ r ≡ numberLooked last x ⌝ }
+pub fn number_looked(last: Entry, rule: u8, clause: u8) -> u8
+    ensures { λ r. ⌜ r ≡ numberLooked last rule clause ⌝ }
 {
-    let rule = x.rule;
     match rule {
-        1 => x.clause,
-        2 => x.clause,
-        3 => x.clause,
+        1 => clause,
+        2 => clause,
+        3 => clause,
         4 => clause_named(last),
         _ => 0,
     }

@@ -17,7 +17,7 @@ use Rattle.runfile.specs.File.{File, file, opened}
 use Rattle.runfile.specs.Claims.{Outcome}
 use Rattle.runfile.proofs.Given.{every-file}
 use Rattle.reaching.proofs.Handing.{decided}
-use Rattle.listing.specs.Lines.{acceptedLine, refusedLine}
+use Rattle.listing.specs.Lines.{ruleName, acceptedLine, refusedLine}
 use Rattle.listing.specs.Listing.{Beneath, Printed, TriedWith, badFile, goodFile, nothing, refused, through, went}
 use Rattle.listing.specs.Claims.{BeneathAll, EveryFileListed, TriedAlike}
 
@@ -46,9 +46,9 @@ pub tried-alike : TriedAlike
 unfolding flatMap
 tried-alike J B o n xs w e through = ([], refl, through)
 tried-alike J B o n (x ∷ xs) w e (refused a j z) =
-    let line = refusedLine n x (a .number) in
+    let line = refusedLine n (ruleName x) (a .number) in
     ((line, []) ∷ [], sym (append-nil (line ++ []) ∙ append-nil line), subst (λ v. TriedWith J (nothing J) o n (x ∷ xs) v a) (sym (append-nil line)) (refused a j z))
 tried-alike J B o n (x ∷ xs) w e (went {u = u} {w = v} a j z b t) =
     let (lines, is, r) = tried-alike J B (a .state) (n + 1) xs v e t in
-    let line = acceptedLine n x (length (J .state (a .state) .trail)) (J .state (a .state) .level) in
+    let line = acceptedLine n (ruleName x) (length (J .state (a .state) .trail)) (J .state (a .state) .level) in
     ((line, u) ∷ lines, sym (append-assoc line u v) ∙ ap (λ (k : List ℕ). (line ++ u) ++ k) is, went a j z refl r)

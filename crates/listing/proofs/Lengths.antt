@@ -17,7 +17,7 @@ use Rattle.runfile.specs.File.{mostSteps, opened}
 use Rattle.runfile.specs.Claims.{Outcome}
 use Rattle.runfile.proofs.Given.{every-file}
 use Rattle.reaching.proofs.Reached.{reached-fine, decisions-few}
-use Rattle.listing.specs.Lines.{acceptedLine, lastLine, mostLine}
+use Rattle.listing.specs.Lines.{ruleName, acceptedLine, lastLine, mostLine}
 use Rattle.listing.specs.Listing.{Tried, through, refused, went, badFile, goodFile}
 use Rattle.listing.specs.Claims.{ListingFits, Modest, PlainJudge}
 use Rattle.listing.proofs.Every.{answers-all}
@@ -33,7 +33,7 @@ module _ (J : Judge) (M : Modest J) where
       let s = J .state (a .state) in
       let line = length-accepted n x (length (s .trail)) (s .level) (omega arith) (omega (arith, M .few-entries (a .state) R′)) (omega (arith, M .low-level (a .state) R′)) in
       let rest = tried-length xs R′ (omega arith) t in
-      omega (arith, line, rest, ap length b, length-append u w, length-append (acceptedLine n x (length (s .trail)) (s .level)) (u ++ w))
+      omega (arith, line, rest, ap length b, length-append u w, length-append (acceptedLine n (ruleName x) (length (s .trail)) (s .level)) (u ++ w))
 
 -- The number by which a file is refused is a byte.
 file-refusal : {n : ℕ} → ((endsInside ≤ n) × (n ≤ surplus)) ⊎ (n ≡ tooLong) → n < 256

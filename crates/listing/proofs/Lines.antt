@@ -1,5 +1,5 @@
--- How long lines are, and the last line by a run record.
-use mathlib.Core.Path.{_≡_, refl, sym, ap}
+-- A rule's name by its number; how long lines are; the last line by a run record.
+use mathlib.Core.Path.{_≡_, refl, subst, sym, ap}
 use mathlib.Core.Bool.{Bool, true, false, _&&_, cond}
 use mathlib.Core.List.{List, [], _∷_}
 use mathlib.Core.Option.{Option, none, some}
@@ -14,14 +14,35 @@ use Rattle.calculus.specs.Clauses.{Instanced}
 use Rattle.calculus.specs.Rules.{Answer}
 use Rattle.calculus.specs.States.{Step, Propagate, Decide, Conflict, Resolve, Factorize, Skip, Backtrack, Grow, Unknown, stands, conflictOf}
 use Rattle.runfile.specs.File.{mostSteps}
+use Rattle.asking.specs.Steps.{decideOf, instanceOf, stepOf}
+use Rattle.asking.specs.declared.Step as steps
 use Rattle.text.specs.Text.{bytes, decimal, Wrote}
 use Rattle.text.proofs.Text.{length-decimal}
 use Rattle.listing.specs.Lines.{ruleName, numbered, acceptedLine, refusedLine, isEmpty, isRefutation, closing, lastLine, badLine, mostName, mostNumbered, mostLine, mostLast, mostBad}
-use Rattle.listing.specs.Records.{ClosesAsLast}
+use Rattle.listing.specs.Records.{ClosesAsLast, NamesRule, nameOf}
+
+-- ---- a rule's name
+
+pub names-rule : NamesRule
+names-rule x = by (eqb (x .rule) 1) (eqb (x .rule) 2) (eqb (x .rule) 3) (eqb (x .rule) 4) (eqb (x .rule) 5) (eqb (x .rule) 6) (eqb (x .rule) 7) (eqb (x .rule) 8)
+  where
+    by : (b1 b2 b3 b4 b5 b6 b7 b8 : Bool)
+        → cond b1 (bytes "propagate") (cond b2 (bytes "decide") (cond b3 (bytes "conflict") (cond b4 (bytes "resolve") (cond b5 (bytes "factorize") (cond b6 (bytes "skip") (cond b7 (bytes "backtrack") (cond b8 (bytes "grow") (bytes ""))))))))
+        ≡ ruleName (cond b1 (Propagate (x .clause) (x .literal) (instanceOf x)) (cond b2 (decideOf x) (cond b3 (Conflict (x .clause) (instanceOf x)) (cond b4 (Resolve (x .literal))
+        (cond b5 (Factorize (x .literal) (x .other)) (cond b6 Skip (cond b7 (Backtrack (x .literal)) (cond b8 (Grow (x .amount)) (Unknown (x .rule))))))))))
+    by true b2 b3 b4 b5 b6 b7 b8 = refl
+    by false true b3 b4 b5 b6 b7 b8 = refl
+    by false false true b4 b5 b6 b7 b8 = refl
+    by false false false true b5 b6 b7 b8 = refl
+    by false false false false true b6 b7 b8 = refl
+    by false false false false false true b7 b8 = refl
+    by false false false false false false true b8 = refl
+    by false false false false false false false true = refl
+    by false false false false false false false false = refl
 
 -- ---- how long
 
-pub length-name : (x : Step) → length (ruleName x) ≤ mostName
+length-name : (x : Step) → length (ruleName x) ≤ mostName
 length-name (Propagate c l τ) = lit≤ tt
 length-name (Decide c l sign τ zs) = lit≤ tt
 length-name (Conflict c τ) = lit≤ tt
@@ -32,6 +53,11 @@ length-name (Backtrack l) = lit≤ tt
 length-name (Grow n) = lit≤ tt
 length-name (Unknown rule) = lit≤ tt
 
+short-name : (rule : ℕ) → length (nameOf rule) ≤ mostName
+short-name rule =
+    let x : steps.Step = record { rule = rule; clause = 0; literal = 0; other = 0; sign = 0; amount = 0; count = 0; brought = 0; instance = []; atoms = [] } in
+    subst (λ (name : List ℕ). length name ≤ mostName) (sym (names-rule x)) (length-name (stepOf x))
+
 pub digits-step : (n : ℕ) → n ≤ mostSteps → length (decimal n) ≤ 4
 digits-step n h = length-decimal 3 n (omega arith)
 
@@ -41,14 +67,14 @@ digits-byte n h = length-decimal 2 n (omega arith)
 pub digits-machine : (n : ℕ) → n < 18446744073709551616 → length (decimal n) ≤ 20
 digits-machine n h = length-decimal 19 n (omega arith)
 
-pub length-numbered : (n : ℕ) (x : Step) → n ≤ mostSteps → length (numbered n x) ≤ mostNumbered
-length-numbered n x h = simp length-append (omega (arith, digits-step n h, length-name x))
+pub length-numbered : (n rule : ℕ) → n ≤ mostSteps → length (numbered n (nameOf rule)) ≤ mostNumbered
+length-numbered n rule h = simp length-append (omega (arith, digits-step n h, short-name rule))
 
-pub length-accepted : (n : ℕ) (x : Step) (t k : ℕ) → n ≤ mostSteps → t < 256 → k < 256 → length (acceptedLine n x t k) ≤ mostLine
+pub length-accepted : (n : ℕ) (x : Step) (t k : ℕ) → n ≤ mostSteps → t < 256 → k < 256 → length (acceptedLine n (ruleName x) t k) ≤ mostLine
 unfolding acceptedLine
 length-accepted n x t k h i j = simp length-append (omega (arith, digits-step n h, length-name x, digits-byte t i, digits-byte k j))
 
-pub length-refused : (n : ℕ) (x : Step) (e : ℕ) → n ≤ mostSteps → e < 256 → length (refusedLine n x e) ≤ mostLine
+pub length-refused : (n : ℕ) (x : Step) (e : ℕ) → n ≤ mostSteps → e < 256 → length (refusedLine n (ruleName x) e) ≤ mostLine
 unfolding refusedLine
 length-refused n x e h i = simp length-append (omega (arith, digits-step n h, length-name x, digits-byte e i))
 
@@ -82,10 +108,7 @@ closes-as-last e = ap (λ (b : Bool). closing b (e .number)) (refuted-run (e .st
 
 -- ---- what the writers of names and of the last line wrote
 
-pub named : {d d′ : List ℕ} {i r : ℕ} {x y : Step} → x ≡ y → Wrote d i (ruleName y) d′ r → Wrote d i (ruleName x) d′ r
-named e w = rw e w
-
--- An unknown rule has no name.
+-- No name
 pub nothing : {d : List ℕ} {i : ℕ} → Wrote d i [] d i
 nothing = record { next = omega arith; left = refl }
 

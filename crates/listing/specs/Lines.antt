@@ -24,16 +24,16 @@ ruleName (Grow n) = bytes "grow"
 ruleName (Unknown rule) = bytes ""
 
 -- What both lines of a step begin with: its number and its rule's name
-abbrev pub numbered : (number : ℕ) → Step → List ℕ
-numbered n x = decimal n ++ bytes " " ++ ruleName x
+abbrev pub numbered : (number : ℕ) → (name : List ℕ) → List ℕ
+numbered n name = decimal n ++ bytes " " ++ name
 
 -- "One line per step tried: step number, rule name in small letters, trail length, k"
-unfoldable pub acceptedLine : (number : ℕ) → Step → (length level : ℕ) → List ℕ
-acceptedLine n x t k = numbered n x ++ bytes " " ++ decimal t ++ bytes " " ++ decimal k ++ bytes "\n"
+unfoldable pub acceptedLine : (number : ℕ) → (name : List ℕ) → (length level : ℕ) → List ℕ
+acceptedLine n name t k = numbered n name ++ bytes " " ++ decimal t ++ bytes " " ++ decimal k ++ bytes "\n"
 
 -- "or number, name, `refused`, refusal"
-unfoldable pub refusedLine : (number : ℕ) → Step → (refusal : ℕ) → List ℕ
-refusedLine n x e = numbered n x ++ bytes " refused " ++ decimal e ++ bytes "\n"
+unfoldable pub refusedLine : (number : ℕ) → (name : List ℕ) → (refusal : ℕ) → List ℕ
+refusedLine n name e = numbered n name ++ bytes " refused " ++ decimal e ++ bytes "\n"
 
 -- No name is longer than `propagate`, `factorize` and `backtrack`.
 abbrev pub mostName : ℕ

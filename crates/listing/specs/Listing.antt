@@ -10,7 +10,7 @@ use Rattle.calculus.specs.Runs.{Judge, plain, stated}
 use Rattle.calculus.specs.States.{Step}
 use Rattle.runfile.specs.Readers.{got, bad}
 use Rattle.runfile.specs.File.{File, file, mostSteps, opened}
-use Rattle.listing.specs.Lines.{acceptedLine, refusedLine, lastLine, badLine, mostLine, mostLast}
+use Rattle.listing.specs.Lines.{ruleName, acceptedLine, refusedLine, lastLine, badLine, mostLine, mostLast}
 
 -- What may stand beneath the line of an accepted step: of the place where it was tried, the step, and the text
 abbrev pub Beneath : Judge → Type 1
@@ -25,9 +25,9 @@ nothing J o x u = u ≡ []
 pub data TriedWith (J : Judge) (B : Beneath J) : J .Over → (n : ℕ) → List Step → List ℕ → Reply (J .Over) → Type 0 where
   through : {o : J .Over} {n : ℕ} → TriedWith J B o n [] [] (record { number = accepted; place = 0; state = o })
   refused : {o : J .Over} {n : ℕ} {x : Step} {xs : List Step} (a : Reply (J .Over)) → J .Gives o x a → ¬ (a .number ≡ accepted)
-      → TriedWith J B o n (x ∷ xs) (refusedLine n x (a .number)) a
+      → TriedWith J B o n (x ∷ xs) (refusedLine n (ruleName x) (a .number)) a
   went : {o : J .Over} {n : ℕ} {x : Step} {xs : List Step} {u w : List ℕ} {e : Reply (J .Over)} (a : Reply (J .Over)) → J .Gives o x a → a .number ≡ accepted → B o x u
-      → TriedWith J B (a .state) (n + 1) xs w e → TriedWith J B o n (x ∷ xs) (acceptedLine n x (length (J .state (a .state) .trail)) (J .state (a .state) .level) ++ (u ++ w)) e
+      → TriedWith J B (a .state) (n + 1) xs w e → TriedWith J B o n (x ∷ xs) (acceptedLine n (ruleName x) (length (J .state (a .state) .trail)) (J .state (a .state) .level) ++ (u ++ w)) e
 
 -- .. as a listing has them
 abbrev pub Tried : (J : Judge) → J .Over → (n : ℕ) → List Step → List ℕ → Reply (J .Over) → Type 0

@@ -4,22 +4,19 @@ ghost use mathlib.Core.Path.{_≡_};
 ghost use Prim.Native.Nat.{_+_, _≤_};
 ghost use lib.ListN.{length};
 ghost use Rattle.runfile.specs.File.{mostSteps};
-ghost use Rattle.asking.specs.Steps.{stepOf};
 ghost use Rattle.text.specs.Text.{Wrote};
-ghost use Rattle.listing.specs.Lines.{ruleName, numbered, acceptedLine, refusedLine, badLine, closing, mostName, mostNumbered, mostLine, mostLast, mostBad};
+ghost use Rattle.listing.specs.Lines.{numbered, acceptedLine, refusedLine, badLine, closing, mostName, mostNumbered, mostLine, mostLast, mostBad};
 ghost use Rattle.listing.specs.Records as records;
-use asking::Step;
 use rules::Run;
 use text::put_byte;
 use text::put_decimal;
 use text::put_word;
 
 // "Rule name in small letters"
-fn put_name(out: &mut [u8], at: usize, x: Step) -> usize
+fn put_name(out: &mut [u8], at: usize, rule: u8) -> usize
     requires { ⌜ at + mostName ≤ length (now out) ⌝ }
-    ensures { λ r. ⌜ Wrote (now (out .entry)) at (ruleName (stepOf x)) (now (out .exit)) r ⌝ }
+    ensures { λ r. ⌜ Wrote (now (out .entry)) at (records.nameOf rule) (now (out .exit)) r ⌝ }
 {
-    let rule = x.rule;
     match rule {
         1 => put_word(out, at, b"propagate"),
         2 => put_word(out, at, b"decide"),
@@ -34,21 +31,21 @@ fn put_name(out: &mut [u8], at: usize, x: Step) -> usize
 }
 
 // "Step number, rule name in small letters"
-fn put_numbered(out: &mut [u8], at: usize, n: usize, x: Step) -> usize
+fn put_numbered(out: &mut [u8], at: usize, n: usize, rule: u8) -> usize
     requires { ⌜ (n ≤ mostSteps) × (at + mostNumbered ≤ length (now out)) ⌝ }
-    ensures { λ r. ⌜ Wrote (now (out .entry)) at (numbered n (stepOf x)) (now (out .exit)) r ⌝ }
+    ensures { λ r. ⌜ Wrote (now (out .entry)) at (numbered n (records.nameOf rule)) (now (out .exit)) r ⌝ }
 {
     let space = put_decimal(out, at, n);
     let name = put_byte(out, space, b' ');
-    put_name(out, name, x)
+    put_name(out, name, rule)
 }
 
 // "One line per step tried: step number, rule name in small letters, trail length, k"
-pub fn put_accepted(out: &mut [u8], at: usize, n: usize, x: Step, trail: u8, level: u8) -> usize
+pub fn put_accepted(out: &mut [u8], at: usize, n: usize, rule: u8, trail: u8, level: u8) -> usize
     requires { ⌜ (n ≤ mostSteps) × (at + mostLine ≤ length (now out)) ⌝ }
-    ensures { λ r. ⌜ Wrote (now (out .entry)) at (acceptedLine n (stepOf x) trail level) (now (out .exit)) r ⌝ }
+    ensures { λ r. ⌜ Wrote (now (out .entry)) at (acceptedLine n (records.nameOf rule) trail level) (now (out .exit)) r ⌝ }
 {
-    let first = put_numbered(out, at, n, x);
+    let first = put_numbered(out, at, n, rule);
     let length = put_byte(out, first, b' ');
     let second = put_decimal(out, length, trail as usize);
     let k = put_byte(out, second, b' ');
@@ -57,11 +54,11 @@ pub fn put_accepted(out: &mut [u8], at: usize, n: usize, x: Step, trail: u8, lev
 }
 
 // "Or number, name, `refused`, refusal"
-pub fn put_refused(out: &mut [u8], at: usize, n: usize, x: Step, refusal: u8) -> usize
+pub fn put_refused(out: &mut [u8], at: usize, n: usize, rule: u8, refusal: u8) -> usize
     requires { ⌜ (n ≤ mostSteps) × (at + mostLine ≤ length (now out)) ⌝ }
-    ensures { λ r. ⌜ Wrote (now (out .entry)) at (refusedLine n (stepOf x) refusal) (now (out .exit)) r ⌝ }
+    ensures { λ r. ⌜ Wrote (now (out .entry)) at (refusedLine n (records.nameOf rule) refusal) (now (out .exit)) r ⌝ }
 {
-    let word = put_numbered(out, at, n, x);
+    let word = put_numbered(out, at, n, rule);
     let number = put_word(out, word, b" refused ");
     let end = put_decimal(out, number, refusal as usize);
     put_byte(out, end, b'\n')

@@ -124,14 +124,14 @@ module _ {run : Run} {s : states.State} {table : List Clause} (R : RunOf run s) 
       by-kind Decided e t = refl
 
   -- The number that is found is the one that the step looks at.
-  number-is : (x : Step) (i : ℕ) → i ≡ run .length - 1 → numberLooked (getD (run .trail) i pastEnd) x ≡ looksAt s (stepOf x)
-  number-is x i l = by-rule (λ y. numberLooked (getD (run .trail) i pastEnd) x ≡ looksAt s y) x
+  number-is : (x : Step) (i : ℕ) → i ≡ run .length - 1 → numberLooked (getD (run .trail) i pastEnd) (x .rule) (x .clause) ≡ looksAt s (stepOf x)
+  number-is x i l = by-rule (λ y. numberLooked (getD (run .trail) i pastEnd) (x .rule) (x .clause) ≡ looksAt s y) x
       (λ e. rw e) (λ e. rw e) (λ e. rw e) (λ e. rw e (last-named i l)) (λ e. rw e) (λ e. rw e) (λ e. rw e) (λ e. rw e)
       (λ n1 n2 n3 n4. simp (ne-eqb (x .rule) 1 n1, ne-eqb (x .rule) 2 n2, ne-eqb (x .rule) 3 n3, ne-eqb (x .rule) 4 n4))
 
 -- What is found is what the step looks at; i is the slot of the last entry.
 pub looks-at : {run : Run} {s : states.State} {table : List Clause} → RunOf run s → table ≡ packedTable (clauses s) → (x : Step) {i c k : ℕ} {q : Looked}
-    → i ≡ run .length - 1 → c ≡ numberLooked (getD (run .trail) i pastEnd) x → k ≡ slotOf c → q ≡ lookedIn c (getD table k pastTable) → q ≡ lookedAt s (stepOf x)
+    → i ≡ run .length - 1 → c ≡ numberLooked (getD (run .trail) i pastEnd) (x .rule) (x .clause) → k ≡ slotOf c → q ≡ lookedIn c (getD table k pastTable) → q ≡ lookedAt s (stepOf x)
 looks-at {run} {s} {table} R is x {i} {c} {k} l e h q = q ∙ ap (λ (m : ℕ). lookedIn c (getD table m pastTable)) h ∙ found R is pastTable c
     ∙ ap (λ (m : ℕ). record { clause = packed (heldAt (clauses s) m) }) (e ∙ number-is R is x i l)
 

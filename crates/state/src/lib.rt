@@ -174,7 +174,7 @@ impl State {
     {
         let run = self.run;
         let last = run.trail[last_slot(run.length)];
-        let c = number_looked(last, x);
+        let c = number_looked(last, x.rule, x.clause);
         let held = self.table[slot_of(c)];
         let looked = looked_at(c, held);
         let version = run.version;

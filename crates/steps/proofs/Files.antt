@@ -15,12 +15,12 @@ use Rattle.runfile.specs.Readers.{Got, bad, got, times}
 use Rattle.runfile.proofs.Given.{every-file}
 use Rattle.runfile.proofs.Short.{long-files-refused}
 use Rattle.runfile.proofs.Times.{times-front, times-length}
+use Rattle.fields.specs.Views.{reached}
 use Rattle.fields.specs.declared.Cursor.the-variants as C
 use Rattle.header.specs.Records.{inputOf, packedHeader}
 use Rattle.header.specs.declared.HeaderRead.{HeaderRead}
 use Rattle.asking.specs.Steps.{stepOf}
-use Rattle.steps.specs.Records.{fileAnswer, packedStep, stepAnswer}
-use Rattle.steps.specs.declared.StepRead.{StepRead}
+use Rattle.steps.specs.Records.{fileAnswer, packedStep, stepThere}
 use Rattle.steps.proofs.Parts.{file-whole, saying}
 use Rattle.steps.proofs.Said.{step-said}
 
@@ -108,29 +108,28 @@ module _ (s : List ℕ) where
             }
         by (refused m r c) = let z : C.Refused m r ≡ C.At first = sym (ap (λ (r : HeaderRead). r .at) (rw c at e)) ∙ q in absurd (let y : _≡_ {A = ℕ} 0 1 = cc in omega arith)
 
--- The record r is read of the first of the steps zs, and the others from next on.
-pub record Stepping (s : List ℕ) (f : Form) (zs : List calculus.Step) (r : StepRead) : Type 0 where
+-- The first of the steps zs is read at the place i, and the others from next on.
+pub record Stepping (s : List ℕ) (f : Form) (i : ℕ) (zs : List calculus.Step) : Type 0 where
   pub step-is : calculus.Step
   pub others : List calculus.Step
   pub next : ℕ
   pub all : zs ≡ step-is ∷ others
-  pub says : stepOf (r .step) ≡ step-is
-  pub at : r .at ≡ C.At next
+  pub says : stepOf (stepThere (step f s i)) ≡ step-is
+  pub at : reached (step f s i) ≡ C.At next
   pub ahead : Ahead s f next others
 
-pub step-ahead : (s : List ℕ) (f : Form) (i : ℕ) (zs : List calculus.Step) (r : StepRead) → Ahead s f i zs → 0 < length zs → r ≡ stepAnswer (step f s i) → Stepping s f zs r
-step-ahead s f i [] r a h e = absurd (omega arith)
-step-ahead s f i (x ∷ zs) r a h e =
+pub step-ahead : (s : List ℕ) (f : Form) (i : ℕ) (zs : List calculus.Step) → Ahead s f i zs → 0 < length zs → Stepping s f i zs
+step-ahead s f i [] a h = absurd (omega arith)
+step-ahead s f i (x ∷ zs) a h =
     let t = times-front (step f) s (length zs) i (x ∷ zs) (a .last) (a .reads) in
     let q : x ≡ t .value = cc in
     let w : zs ≡ t .others = cc in
-    let b = rw (t .first) at e in
     record {
       step-is = x;
       others = zs;
       next = t .place;
       all = refl;
-      says = ap (λ (r : StepRead). stepOf (r .step)) b ∙ ap (λ (y : calculus.Step). stepOf (packedStep y)) (sym q) ∙ step-said (f .brings) x (a .held x (List·Memᴰ·head refl));
-      at = ap (λ (r : StepRead). r .at) b;
+      says = ap (λ (g : Got calculus.Step). stepOf (stepThere g)) (t .first) ∙ ap (λ (y : calculus.Step). stepOf (packedStep y)) (sym q) ∙ step-said (f .brings) x (a .held x (List·Memᴰ·head refl));
+      at = ap (λ (g : Got calculus.Step). reached g) (t .first);
       ahead = record { last = a .last; reads = t .rest ∙ ap (λ (l : List calculus.Step). got l (a .last)) (sym w); held = λ y m. a .held y (List·Memᴰ·tail m) };
     }

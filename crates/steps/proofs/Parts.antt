@@ -1,9 +1,11 @@
 -- How the parts of a step follow each other, one law for each rule; then the steps and the whole file.
 use mathlib.Core.Path.{_∙_, _≡_, ap, refl, sym}
 use mathlib.Core.List.{List, [], _++_, _∷_, map, map-append}
-use mathlib.Core.Bool.{false, true}
+use mathlib.Core.Bool.{Bool, cond, false, true}
 use Prim.Native.Nat.{_<_, _≤_, suc, zero, ℕ}
+use native.Mathlib.Decide.{ℕ-discrete}
 use native.Mathlib.Omega.{arith}
+use lib.Dec.{eqb}
 use lib.ListN.{length, length-map, replicate, take}
 use lib.Seq.{length-take-le}
 use borrow.Author.Tests.{le-leb, lt-leb, ne-eqb}
@@ -14,12 +16,13 @@ use Rattle.basis.specs.declared.Form.{Form}
 use Rattle.lists.proofs.Arrays.{exactly-none}
 use Rattle.lists.specs.Arrays.{exactly}
 use Rattle.steps.specs.declared.SourcesRead.{SourcesRead}
-use Rattle.steps.specs.declared.StepRead.{StepRead}
-use Rattle.steps.specs.Records.{FillsSources, Packs, PacksSource, ReadsSources, fileAnswer, inOrder, packedSource, packedStep, stepAnswer, stepRecord}
+use Rattle.steps.specs.declared.Outline.{Outline}
+use Rattle.steps.specs.declared.OutlineRead.{OutlineRead}
+use Rattle.steps.specs.Records.{Decided, FillsSources, Packs, PacksSource, ReadsSources, fileAnswer, inOrder, instanceIn, outlineAnswer, outlineOf, packedSource, packedStep, stepRecord, stepThere}
 use Rattle.calculus.specs.States.{Backtrack, Conflict, Decide, Factorize, Grow, Propagate, Resolve, Skip}
 use Rattle.calculus.specs.Trails as trails
 use Rattle.fields.proofs.Laws.{Leads, and-give, and-then, filled-long, leads, leads-give, leads-then, no-refusal, nothing, reached-of, same-refusal}
-use Rattle.fields.specs.Views.{Filled, after, reached, viewed}
+use Rattle.fields.specs.Views.{Filled, after, given, reached, viewed}
 use Rattle.fields.specs.declared.Cursor.{Cursor}
 use Rattle.header.specs.Records.{packedHeader}
 use Rattle.header.specs.declared.HeaderRead.{HeaderRead}
@@ -27,6 +30,7 @@ use Rattle.asking.specs.Steps.{noSource}
 use Rattle.asking.specs.declared.Source.{Source}
 use Rattle.asking.specs.declared.Step.{Step}
 use Rattle.runfile.proofs.Short.{long-files-refused}
+use Rattle.runfile.proofs.Times.{times-length}
 use Rattle.runfile.specs.File.{File, Header, byte, count, end, file, header, instance, mostFile, rule, ruled, source, sources, step, wholeFile, within}
 use Rattle.runfile.specs.Readers.{Got, Reader, _then_, bad, give, got, onward, times}
 use Rattle.fields.specs.declared.Cursor.the-variants as C
@@ -34,19 +38,18 @@ use Rattle.calculus.specs.States as calculus
 
 -- ---- records
 
--- A record whose instance is filled is the record of the step that it names.
-pub record-is : (r c l g k : ℕ) (τ : List ℕ) (blank : Source) → k ≤ mostVariables → Filled mostVariables 0 τ k → blank ≡ noSource
-    → record { rule = r; clause = c; literal = l; other = 0; sign = g; amount = 0; count = k; brought = 0; instance = τ; atoms = replicate mostBrought blank } ≡ stepRecord r c l 0 g 0 (take k τ)
-record-is r c l g k τ blank h e b =
+-- An outline whose instance is filled is that of the step that it names.
+pub outline-is : (r c l g k : ℕ) (τ : List ℕ) → k ≤ mostVariables → Filled mostVariables 0 τ k
+    → record { rule = r; clause = c; literal = l; other = 0; sign = g; amount = 0; count = k; brought = 0; instance = τ } ≡ outlineOf (stepRecord r c l 0 g 0 (take k τ))
+outline-is r c l g k τ h e =
     let i = filled-long mostVariables 0 τ k e in
     let j : length (take k τ) ≡ k = length-take-le k τ (omega arith) in
-    λ v. record { rule = r; clause = c; literal = l; other = 0; sign = g; amount = 0; count = sym j v; brought = 0; instance = e v; atoms = (ap (replicate mostBrought) b ∙ sym (exactly-none noSource mostBrought)) v }
+    λ v. record { rule = r; clause = c; literal = l; other = 0; sign = g; amount = 0; count = sym j v; brought = 0; instance = e v }
 
 -- .. and so is that of a step without an instance.
-pub bare-is : (r l m n : ℕ) (blank : Source) → blank ≡ noSource
-    → record { rule = r; clause = 0; literal = l; other = m; sign = 0; amount = n; count = 0; brought = 0; instance = replicate mostVariables 0; atoms = replicate mostBrought blank } ≡ stepRecord r 0 l m 0 n []
-bare-is r l m n blank b =
-    λ v. record { rule = r; clause = 0; literal = l; other = m; sign = 0; amount = n; count = 0; brought = 0; instance = sym (exactly-none 0 mostVariables) v; atoms = (ap (replicate mostBrought) b ∙ sym (exactly-none noSource mostBrought)) v }
+pub bare-is : (r l m n : ℕ) → record { rule = r; clause = 0; literal = l; other = m; sign = 0; amount = n; count = 0; brought = 0; instance = replicate mostVariables 0 } ≡ outlineOf (stepRecord r 0 l m 0 n [])
+bare-is r l m n =
+    λ v. record { rule = r; clause = 0; literal = l; other = m; sign = 0; amount = n; count = 0; brought = 0; instance = sym (exactly-none 0 mostVariables) v }
 
 -- ---- readings of which something is made
 
@@ -129,65 +132,104 @@ module _ (s : List ℕ) (f : Form) where
     filled = rw k (F .filled);
   }
 
-  packs : {c₀ c₁ : Cursor} {x : calculus.Step} (r : ℕ) → Leads c₀ c₁ x s (ruled f r) → Packs s (ruled f r) c₀ c₁ (packedStep x)
-  packs r e = leads-give packedStep e .so
+  -- The same where they are only counted
+  pub count-none : (c : Cursor) → f .brings ≡ false → viewed c 0 ≡ after c ((sources f then λ zs. give (length zs)) s)
+  unfolding sources
+  count-none c e = rw e (and-give {A = List trails.Source} c c [] s (give []) length (nothing c [] s))
+
+  pub count-parts : (c₀ c₁ c₂ : Cursor) (n : ℕ) → f .brings ≡ true → viewed c₁ n ≡ after c₀ (count mostBrought s) → c₂ ≡ reached (after c₁ (times n source s))
+      → viewed c₂ n ≡ after c₀ ((sources f then λ zs. give (length zs)) s)
+  unfolding sources
+  count-parts c₀ c₁ c₂ n e e₁ q = rw e (through s (λ m. times m source) length (leads c₀ c₁ n (count mostBrought) e₁) (leads c₁ c₂ n (times n source then λ zs. give (length zs)) (rw q (counted c₁))) .so)
+    where
+      by : (i : ℕ) (g : Got (List trails.Source)) → times n source s i ≡ g → viewed (reached g) n ≡ onward g (λ zs k. got (length zs) k)
+      by i (got zs k) z = ap (λ (m : ℕ). got m k) (sym (times-length source s n i zs k z))
+      by i (bad m p) z = refl
+
+      counted : (c : Cursor) → viewed (reached (after c (times n source s))) n ≡ after c ((times n source then λ zs. give (length zs)) s)
+      counted (C.At i) = by i (times n source s i) refl
+      counted (C.Refused m p) = refl
+
+  packs : {c₀ c₁ : Cursor} {x : calculus.Step} (r : ℕ) → Leads c₀ c₁ x s (ruled f r) → Packs s (ruled f r) c₀ c₁ (outlineOf (packedStep x))
+  packs r e = leads-give (λ y. outlineOf (packedStep y)) e .so
 
   pub propagate-parts : (c₀ c₁ c₂ c₃ : Cursor) (c l : ℕ) (τ : List ℕ) → viewed c₁ c ≡ after c₀ (byte s) → viewed c₂ l ≡ after c₁ (byte s) → viewed c₃ τ ≡ after c₂ (instance s)
-      → Packs s (ruled f 1) c₀ c₃ (packedStep (Propagate c l τ))
+      → Packs s (ruled f 1) c₀ c₃ (outlineOf (packedStep (Propagate c l τ)))
   unfolding ruled
   propagate-parts c₀ c₁ c₂ c₃ c l τ e₁ e₂ e₃ =
       packs 1 (leads-then _ (leads c₀ c₁ c byte e₁) (leads-then _ (leads c₁ c₂ l byte e₂) (leads-give (Propagate c l) (leads c₂ c₃ τ instance e₃))))
 
-  pub decide-parts : (c₀ c₁ c₂ c₃ c₄ : Cursor) (c l g : ℕ) (τ : List ℕ) (r : SourcesRead) → viewed c₁ c ≡ after c₀ (byte s) → viewed c₂ l ≡ after c₁ (byte s) → viewed c₃ g ≡ after c₂ (within 0 1 s) → viewed c₄ τ ≡ after c₃ (instance s)
-      → ReadsSources s f c₄ r
-      → Packs s (ruled f 2) c₀ (r .at) (record { rule = 2; clause = c; literal = l; other = 0; sign = g; amount = 0; count = length τ; brought = r .count; instance = exactly mostVariables 0 τ; atoms = r .atoms })
-  unfolding ruled
-  decide-parts c₀ c₁ c₂ c₃ c₄ c l g τ r e₁ e₂ e₃ e₄ R =
-      let all : Leads c₀ (r .at) (with-atoms read) s (ruled f 2 then λ y. give (packedStep y)) =
-      through s _ packedStep (leads c₀ c₁ c byte e₁) (through s _ packedStep (leads c₁ c₂ l byte e₂) (through s _ packedStep (leads c₂ c₃ g (within 0 1) e₃) (through s _ packedStep (leads c₃ c₄ τ instance e₄) last))) in
-      ap (viewed (r .at)) whole ∙ all .so
-    where
-      -- The record with these atoms
-      with-atoms : List Source → Step
-      with-atoms zs = record { rule = 2; clause = c; literal = l; other = 0; sign = g; amount = 0; count = length τ; brought = length zs; instance = exactly mostVariables 0 τ; atoms = exactly mostBrought noSource zs }
+  -- The arguments of a Decide, and then its atoms
+  module _ (c₀ : Cursor) (r : OutlineRead) (D : Decided s c₀ r) where
+    -- The Decide with these atoms
+    abbrev bringing : List trails.Source → calculus.Step
+    bringing zs = Decide (D .clause) (D .literal) (D .sign) (instanceIn (r .outline)) zs
 
-      read : List Source
-      read = take (r .count) (r .atoms)
+    -- What is made of it
+    made : {E : Type 0} (h : calculus.Step → E) (c : Cursor) (y : E) → viewed c y ≡ after (r .at) (((sources f then λ zs. give (bringing zs)) then λ x. give (h x)) s) → viewed c y ≡ after c₀ ((ruled f 2 then λ x. give (h x)) s)
+    unfolding ruled
+    made h c y e =
+        let all : Leads c₀ c y s (ruled f 2 then λ x. give (h x)) =
+        through s _ h (leads c₀ (D .past-clause) (D .clause) byte (D .clause-read)) (through s _ h (leads (D .past-clause) (D .past-literal) (D .literal) byte (D .literal-read))
+        (through s _ h (leads (D .past-literal) (D .past-sign) (D .sign) (within 0 1) (D .sign-read)) (through s _ h (leads (D .past-sign) (r .at) (instanceIn (r .outline)) instance (D .instanced .reads))
+        (record { so = e })))) in
+        all .so
 
-      whole : record { rule = 2; clause = c; literal = l; other = 0; sign = g; amount = 0; count = length τ; brought = r .count; instance = exactly mostVariables 0 τ; atoms = r .atoms } ≡ with-atoms read
-      whole =
-          let long = filled-long mostBrought noSource (r .atoms) (r .count) (R .filled) in
-          let counted = length-take-le (r .count) (r .atoms) (omega (arith, R .few)) in
-          λ v. record { rule = 2; clause = c; literal = l; other = 0; sign = g; amount = 0; count = length τ; brought = sym counted v; instance = exactly mostVariables 0 τ; atoms = R .filled v }
+    -- Its outline with so many of them
+    abbrev counting : ℕ → Outline
+    counting n = record { rule = 2; clause = D .clause; literal = D .literal; other = 0; sign = D .sign; amount = 0; count = length (instanceIn (r .outline)); brought = n; instance = exactly mostVariables 0 (instanceIn (r .outline)) }
 
-      same : (ys : List trails.Source) → with-atoms (map packedSource ys) ≡ packedStep (Decide c l g τ ys)
-      same ys = λ v. record { rule = 2; clause = c; literal = l; other = 0; sign = g; amount = 0; count = length τ; brought = length-map ys packedSource v; instance = exactly mostVariables 0 τ; atoms = exactly mostBrought noSource (map packedSource ys) }
+    pub decide-parts : (c : Cursor) (n : ℕ) → viewed c n ≡ after (r .at) ((sources f then λ zs. give (length zs)) s) → Packs s (ruled f 2) c₀ c (counting n)
+    decide-parts c n e =
+        made (λ x. outlineOf (packedStep x)) c (counting n) (leads-give counting (leads (r .at) c n (sources f then λ zs. give (length zs)) e) .so
+        ∙ alike s (r .at) (sources f) length counting bringing (λ x. outlineOf (packedStep x)) (λ zs. refl))
 
-      last : Leads c₄ (r .at) (with-atoms read) s ((sources f then λ zs. give (Decide c l g τ zs)) then λ y. give (packedStep y))
-      last = record { so = leads-give with-atoms (leads c₄ (r .at) read (sources f then λ ys. give (map packedSource ys)) (R .reads)) .so ∙ alike s c₄ (sources f) (map packedSource) with-atoms (Decide c l g τ) packedStep same }
+    -- Its record with these
+    abbrev with-atoms : ℕ → List Source → Step
+    with-atoms n zs = record { rule = 2; clause = D .clause; literal = D .literal; other = 0; sign = D .sign; amount = 0; count = length (instanceIn (r .outline)); brought = n; instance = exactly mostVariables 0 (instanceIn (r .outline)); atoms = zs }
 
-  pub conflict-parts : (c₀ c₁ c₂ : Cursor) (c : ℕ) (τ : List ℕ) → viewed c₁ c ≡ after c₀ (byte s) → viewed c₂ τ ≡ after c₁ (instance s) → Packs s (ruled f 3) c₀ c₂ (packedStep (Conflict c τ))
+    decision-parts : (z : SourcesRead) → ReadsSources s f (r .at) z → viewed (z .at) (with-atoms (z .count) (z .atoms)) ≡ after c₀ ((ruled f 2 then λ x. give (packedStep x)) s)
+    decision-parts z R =
+        made packedStep (z .at) (with-atoms (z .count) (z .atoms)) (ap (viewed (z .at)) whole ∙ leads-give holding (leads (r .at) (z .at) read (sources f then λ ys. give (map packedSource ys)) (R .reads)) .so
+        ∙ alike s (r .at) (sources f) (map packedSource) holding bringing packedStep same)
+      where
+        holding : List Source → Step
+        holding zs = with-atoms (length zs) (exactly mostBrought noSource zs)
+
+        read : List Source
+        read = take (z .count) (z .atoms)
+
+        whole : with-atoms (z .count) (z .atoms) ≡ holding read
+        whole =
+            let long = filled-long mostBrought noSource (z .atoms) (z .count) (R .filled) in
+            let counted = length-take-le (z .count) (z .atoms) (omega (arith, R .few)) in
+            λ v. with-atoms (sym counted v) (R .filled v)
+
+        same : (ys : List trails.Source) → holding (map packedSource ys) ≡ packedStep (bringing ys)
+        same ys = λ v. with-atoms (length-map ys packedSource v) (exactly mostBrought noSource (map packedSource ys))
+
+  pub conflict-parts : (c₀ c₁ c₂ : Cursor) (c : ℕ) (τ : List ℕ) → viewed c₁ c ≡ after c₀ (byte s) → viewed c₂ τ ≡ after c₁ (instance s) → Packs s (ruled f 3) c₀ c₂ (outlineOf (packedStep (Conflict c τ)))
   unfolding ruled
   conflict-parts c₀ c₁ c₂ c τ e₁ e₂ = packs 3 (leads-then _ (leads c₀ c₁ c byte e₁) (leads-give (Conflict c) (leads c₁ c₂ τ instance e₂)))
 
   module _ (c₀ c₁ : Cursor) (l : ℕ) (e : viewed c₁ l ≡ after c₀ (byte s)) where
-    pub resolve-parts : Packs s (ruled f 4) c₀ c₁ (packedStep (Resolve l))
+    pub resolve-parts : Packs s (ruled f 4) c₀ c₁ (outlineOf (packedStep (Resolve l)))
     unfolding ruled
     resolve-parts = packs 4 (leads-give Resolve (leads c₀ c₁ l byte e))
 
-    pub factorize-parts : (c₂ : Cursor) (m : ℕ) → viewed c₂ m ≡ after c₁ (byte s) → Packs s (ruled f 5) c₀ c₂ (packedStep (Factorize l m))
+    pub factorize-parts : (c₂ : Cursor) (m : ℕ) → viewed c₂ m ≡ after c₁ (byte s) → Packs s (ruled f 5) c₀ c₂ (outlineOf (packedStep (Factorize l m)))
     unfolding ruled
     factorize-parts c₂ m h = packs 5 (leads-then _ (leads c₀ c₁ l byte e) (leads-give (Factorize l) (leads c₁ c₂ m byte h)))
 
-    pub backtrack-parts : Packs s (ruled f 7) c₀ c₁ (packedStep (Backtrack l))
+    pub backtrack-parts : Packs s (ruled f 7) c₀ c₁ (outlineOf (packedStep (Backtrack l)))
     unfolding ruled
     backtrack-parts = packs 7 (leads-give Backtrack (leads c₀ c₁ l byte e))
 
-    pub grow-parts : Packs s (ruled f 8) c₀ c₁ (packedStep (Grow l))
+    pub grow-parts : Packs s (ruled f 8) c₀ c₁ (outlineOf (packedStep (Grow l)))
     unfolding ruled
     grow-parts = packs 8 (leads-give Grow (leads c₀ c₁ l byte e))
 
-  pub skip-parts : (c : Cursor) → Packs s (ruled f 6) c c (packedStep Skip)
+  pub skip-parts : (c : Cursor) → Packs s (ruled f 6) c c (outlineOf (packedStep Skip))
   unfolding ruled
   skip-parts c = packs 6 (leads c c Skip (give Skip) (nothing c Skip s))
 
@@ -196,26 +238,73 @@ module _ (s : List ℕ) (f : Form) where
   unfolding ruled
   other-rules r a b c d e h g = rw (ne-eqb r 1 a, ne-eqb r 2 b, ne-eqb r 3 c, ne-eqb r 4 d, ne-eqb r 5 e, ne-eqb r 6 h, ne-eqb r 7 g)
 
-  pub step-parts : (c₀ c₁ c₂ : Cursor) (r : ℕ) (x : Step) → viewed c₁ r ≡ after c₀ (rule s) → Packs s (ruled f r) c₁ c₂ x → Packs s (step f) c₀ c₂ x
+  pub step-parts : (c₀ c₁ c₂ : Cursor) (r : ℕ) (o : Outline) → viewed c₁ r ≡ after c₀ (rule s) → Packs s (ruled f r) c₁ c₂ o → Packs s (step f) c₀ c₂ o
   unfolding step
-  step-parts c₀ c₁ c₂ r x e h = through s (ruled f) packedStep (leads c₀ c₁ r rule e) (leads c₁ c₂ x (ruled f r then λ y. give (packedStep y)) h) .so
+  step-parts c₀ c₁ c₂ r o e h = through s (ruled f) (λ y. outlineOf (packedStep y)) (leads c₀ c₁ r rule e) (leads c₁ c₂ o (ruled f r then λ y. give (outlineOf (packedStep y))) h) .so
 
   -- ---- an answer of its own
 
-  module _ (i : ℕ) (r : StepRead) (e : Packs s (step f) (C.At i) (r .at) (r .step)) where
-    pub step-read : (j : ℕ) → r .at ≡ C.At j → r ≡ stepAnswer (step f s i)
-    step-read j z = by (step f s i) (sym (ap (λ (d : Cursor). viewed d (r .step)) z) ∙ e)
+  module _ (i : ℕ) (r : OutlineRead) (e : Packs s (step f) (C.At i) (r .at) (r .outline)) where
+    pub step-read : (j : ℕ) → r .at ≡ C.At j → r ≡ outlineAnswer (step f s i)
+    step-read j z = by (step f s i) (sym (ap (λ (d : Cursor). viewed d (r .outline)) z) ∙ e)
       where
-        by : (g : Got calculus.Step) → got (r .step) j ≡ onward g (λ y k. got (packedStep y) k) → r ≡ stepAnswer g
-        by (got y k) q = let a : r .step ≡ packedStep y = cc in let b : r .at ≡ C.At k = cc in rw (sym a, sym b)
+        by : (g : Got calculus.Step) → got (r .outline) j ≡ onward g (λ y k. got (outlineOf (packedStep y)) k) → r ≡ outlineAnswer g
+        by (got y k) q = let a : r .outline ≡ outlineOf (packedStep y) = ap (given (r .outline)) q in let b : r .at ≡ C.At k = z ∙ ap (λ (d : Got Outline). reached d) q in λ v. record { outline = a v; at = b v }
         by (bad n p) q = no-refusal q
 
-    pub step-refused : (n p : ℕ) → r .at ≡ C.Refused n p → stepAnswer (bad n p) ≡ stepAnswer (step f s i)
-    step-refused n p z = by (step f s i) (sym (ap (λ (d : Cursor). viewed d (r .step)) z) ∙ e)
+    pub step-refused : (n p : ℕ) → r .at ≡ C.Refused n p → outlineAnswer (bad n p) ≡ outlineAnswer (step f s i)
+    step-refused n p z = by (step f s i) (sym (ap (λ (d : Cursor). viewed d (r .outline)) z) ∙ e)
       where
-        by : (g : Got calculus.Step) → bad n p ≡ onward g (λ y k. got (packedStep y) k) → stepAnswer (bad n p) ≡ stepAnswer g
+        by : (g : Got calculus.Step) → bad n p ≡ onward g (λ y k. got (outlineOf (packedStep y)) k) → outlineAnswer (bad n p) ≡ outlineAnswer g
         by (got y k) q = no-refusal (sym q)
-        by (bad m q₁) q = ap stepAnswer (same-refusal q)
+        by (bad m q₁) q = ap outlineAnswer (same-refusal q)
+
+  -- ---- the whole of a Decide
+
+  -- What is read is no Decide.
+  abbrev Other : Got calculus.Step → Type 0
+  Other g = ¬ (stepThere g .rule ≡ 2)
+
+  other-then : {A : Type 0} (z : Got A) (k : A → ℕ → Got calculus.Step) → ((x : A) (j : ℕ) → Other (k x j)) → Other (onward z k)
+  other-then (got x j) k h = h x j
+  other-then (bad n p) k h = λ e. absurd (omega arith)
+
+  other-cond : (b : Bool) (i : ℕ) (x y : Reader calculus.Step) → Other (x s i) → Other (y s i) → Other (cond b x y s i)
+  other-cond true i x y h k = h
+  other-cond false i x y h k = k
+
+  -- Only the second rule is that of a Decide.
+  no-decide : (r i : ℕ) → ¬ (r ≡ 2) → Other (ruled f r s i)
+  unfolding ruled
+  no-decide r i h = rw (ne-eqb r 2 h) (
+      other-cond (eqb r 1) i _ _ (other-then (byte s i) _ (λ c j. other-then (byte s j) _ (λ l k. other-then (instance s k) _ (λ τ m e. absurd (omega arith)))))
+      (other-cond (eqb r 3) i _ _ (other-then (byte s i) _ (λ c j. other-then (instance s j) _ (λ τ m e. absurd (omega arith))))
+      (other-cond (eqb r 4) i _ _ (other-then (byte s i) _ (λ l j e. absurd (omega arith)))
+      (other-cond (eqb r 5) i _ _ (other-then (byte s i) _ (λ l j. other-then (byte s j) _ (λ m k e. absurd (omega arith))))
+      (other-cond (eqb r 6) i _ _ (λ e. absurd (omega arith))
+      (other-cond (eqb r 7) i _ _ (other-then (byte s i) _ (λ l j e. absurd (omega arith)))
+      (other-then (byte s i) _ (λ n j e. absurd (omega arith)))))))))
+
+  module _ (c : Cursor) (n : ℕ) (r : OutlineRead) (z : SourcesRead) (D : Decided s c r) (R : ReadsSources s f (r .at) z) where
+    -- The arguments of the second rule are the record's.
+    from-rule : (m j : ℕ) → m ≡ 2 → c ≡ C.At j → stepThere (ruled f m s j) .rule ≡ 2 → with-atoms c r D (z .count) (z .atoms) ≡ stepThere (ruled f m s j)
+    from-rule m j w q h = rw w (by (z .at) (ruled f 2 s j) (rw w at h) (rw q at (decision-parts c r D z R)))
+      where
+        by : (d : Cursor) (g : Got calculus.Step) → stepThere g .rule ≡ 2 → viewed d (with-atoms c r D (z .count) (z .atoms)) ≡ onward g (λ x k. got (packedStep x) k) → with-atoms c r D (z .count) (z .atoms) ≡ stepThere g
+        by (C.At k) (got x m) h e = ap (given (packedStep x)) e
+        by (C.Refused k p) (got x m) h e = no-refusal (sym e)
+        by d (bad m p) h e = absurd (omega arith)
+
+    pub decision-is : (i : ℕ) → viewed c n ≡ rule s i → stepThere (step f s i) .rule ≡ 2 → with-atoms c r D (z .count) (z .atoms) ≡ stepThere (step f s i)
+    unfolding step
+    decision-is i e h = by (rule s i) e h
+      where
+        by : (g : Got ℕ) → viewed c n ≡ g → stepThere (onward g (λ m j. ruled f m s j)) .rule ≡ 2 → with-atoms c r D (z .count) (z .atoms) ≡ stepThere (onward g (λ m j. ruled f m s j))
+        by (got m j) e h = elim (ℕ-discrete m 2) [
+          | yes w ↦ from-rule m j w (reached-of c n e) h
+          | no w ↦ absurd (no-decide m j w h)
+        ]
+        by (bad m p) e h = absurd (omega arith)
 
 -- ---- the whole file
 
@@ -228,8 +317,11 @@ module _ {A B : Type 0} where
       by (bad n p) = refl
   reached-through s (C.Refused n p) f y = refl
 
-pub step-ends : (s : List ℕ) (f : Form) (c₁ c₂ : Cursor) (x : Step) → Packs s (step f) c₁ c₂ x → c₂ ≡ reached (after c₁ (step f s))
-step-ends s f c₁ c₂ x e = reached-of c₂ x e ∙ reached-through s c₁ (step f) packedStep
+pub step-ends : (s : List ℕ) (f : Form) (c₁ c₂ : Cursor) (o : Outline) → Packs s (step f) c₁ c₂ o → c₂ ≡ reached (after c₁ (step f s))
+step-ends s f c₁ c₂ o e = reached-of c₂ o e ∙ reached-through s c₁ (step f) (λ y. outlineOf (packedStep y))
+
+pub source-ends : (s : List ℕ) (c₁ c₂ : Cursor) (z : Source) → PacksSource s c₁ c₂ z → c₂ ≡ reached (after c₁ (source s))
+source-ends s c₁ c₂ z e = reached-of c₂ z e ∙ reached-through s c₁ source packedSource
 
 -- The file of this header and these steps
 abbrev pub saying : Header → List calculus.Step → File

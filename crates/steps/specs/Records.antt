@@ -10,11 +10,10 @@ use Rattle.calculus.specs.States.{Propagate, Decide, Conflict, Resolve, Factori
 use Rattle.calculus.specs.States as calculus
 use Rattle.calculus.specs.Trails as trails
 use Rattle.runfile.specs.Readers.{Got, Reader, _then_, bad, give, got}
-use Rattle.runfile.specs.File.{File, Header, file, header, instance, source, sources}
+use Rattle.runfile.specs.File.{File, Header, byte, file, header, instance, source, sources, within}
 use Rattle.runfile.specs.Claims.{StepHeld}
-use Rattle.fields.specs.Views.{Filled, Fills, after, viewed}
+use Rattle.fields.specs.Views.{Filled, Fills, after, reached, viewed}
 use Rattle.fields.specs.declared.Cursor.{Cursor}
-use Rattle.fields.specs.declared.Cursor.the-variants as C
 use Rattle.header.specs.declared.HeaderRead.{HeaderRead}
 use Rattle.header.specs.Records.{packedHeader}
 use Rattle.asking.specs.declared.Step.{Step}
@@ -22,7 +21,8 @@ use Rattle.asking.specs.Steps.{noSource, stepOf}
 use Rattle.asking.specs.declared.Source.{Source}
 use Rattle.basis.specs.declared.Form.{Form}
 use Rattle.steps.specs.declared.SourcesRead.{SourcesRead}
-use Rattle.steps.specs.declared.StepRead.{StepRead}
+use Rattle.steps.specs.declared.Outline.{Outline}
+use Rattle.steps.specs.declared.OutlineRead.{OutlineRead}
 
 -- The record of a source
 abbrev pub packedSource : trails.Source → Source
@@ -48,9 +48,13 @@ packedStep (Backtrack l) = stepRecord 7 0 l 0 0 0 []
 packedStep (Grow n) = stepRecord 8 0 0 0 0 n []
 packedStep (Unknown r) = stepRecord r 0 0 0 0 0 []
 
--- x and the cursor c₁ are the record of the step that f reads of the file s from the cursor c₀ on, and the cursor after it.
-abbrev pub Packs : (s : List ℕ) (f : Reader calculus.Step) (c₀ c₁ : Cursor) → Step → Type 0
-Packs s f c₀ c₁ x = viewed c₁ x ≡ after c₀ ((f then λ y. give (packedStep y)) s)
+-- What is read of a step where its atoms are only counted
+abbrev pub outlineOf : Step → Outline
+outlineOf x = record { rule = x .rule; clause = x .clause; literal = x .literal; other = x .other; sign = x .sign; amount = x .amount; count = x .count; brought = x .brought; instance = x .instance }
+
+-- o and the cursor c₁ are the outline of the step that f reads of the file s from the cursor c₀ on, and the cursor after it.
+abbrev pub Packs : (s : List ℕ) (f : Reader calculus.Step) (c₀ c₁ : Cursor) → Outline → Type 0
+Packs s f c₀ c₁ o = viewed c₁ o ≡ after c₀ ((f then λ y. give (outlineOf (packedStep y))) s)
 
 -- The same of a source; and n of them, in an array that is blank past them
 abbrev pub PacksSource : (s : List ℕ) (c₀ c₁ : Cursor) → Source → Type 0
@@ -65,19 +69,36 @@ pub record ReadsSources (s : List ℕ) (f : Form) (at : Cursor) (r : SourcesRead
   pub few : r .count ≤ mostBrought
   pub filled : Filled mostBrought noSource (r .atoms) (r .count)
 
--- The instance of a step record
-abbrev pub instanceIn : Step → List ℕ
-instanceIn x = take (x .count) (x .instance)
+-- The instance of a step so read
+abbrev pub instanceIn : Outline → List ℕ
+instanceIn o = take (o .count) (o .instance)
 
--- An instance read from a cursor on, in the record r of a step with the other arguments that are named
-pub record Instanced (s : List ℕ) (at : Cursor) (rule clause literal sign : ℕ) (r : StepRead) : Type 0 where
-  pub reads : viewed (r .at) (instanceIn (r .step)) ≡ after at (instance s)
-  pub is : r .step ≡ stepRecord rule clause literal 0 sign 0 (instanceIn (r .step))
+-- An instance read from a cursor on, in the outline r of a step with the other arguments that are named
+pub record Instanced (s : List ℕ) (at : Cursor) (rule clause literal sign : ℕ) (r : OutlineRead) : Type 0 where
+  pub reads : viewed (r .at) (instanceIn (r .outline)) ≡ after at (instance s)
+  pub is : r .outline ≡ outlineOf (stepRecord rule clause literal 0 sign 0 (instanceIn (r .outline)))
 
--- The answer of reading a step; blank where it is refused
-abbrev pub stepAnswer : Got calculus.Step → StepRead
-stepAnswer (got x next) = record { step = packedStep x; at = C.At next }
-stepAnswer (bad n p) = record { step = stepRecord 0 0 0 0 0 0 []; at = C.Refused n p }
+-- A Decide up to its atoms, in the outline r: its clause, literal and sign read from a cursor on, one after the other, and then its instance
+pub record Decided (s : List ℕ) (at : Cursor) (r : OutlineRead) : Type 0 where
+  pub clause : ℕ
+  pub literal : ℕ
+  pub sign : ℕ
+  pub past-clause : Cursor
+  pub past-literal : Cursor
+  pub past-sign : Cursor
+  pub clause-read : viewed past-clause clause ≡ after at (byte s)
+  pub literal-read : viewed past-literal literal ≡ after past-clause (byte s)
+  pub sign-read : viewed past-sign sign ≡ after past-literal (within 0 1 s)
+  pub instanced : Instanced s past-sign 2 clause literal sign r
+
+-- The record of the step that was read; blank where it is refused
+abbrev pub stepThere : Got calculus.Step → Step
+stepThere (got x next) = packedStep x
+stepThere (bad n p) = stepRecord 0 0 0 0 0 0 []
+
+-- The answer of reading a step where its atoms are only counted
+abbrev pub outlineAnswer : Got calculus.Step → OutlineRead
+outlineAnswer g = record { outline = outlineOf (stepThere g); at = reached g }
 
 -- What stands before the first step, if the whole file is in order
 abbrev pub inOrder : Got File → Got Header → Got Header

@@ -2,12 +2,12 @@
 ghost use mathlib.Core.List.{[]};
 ghost use mathlib.Core.Path.{_≡_};
 ghost use Prim.Native.Nat.{_≤_};
-ghost use lib.ListN.{take};
+ghost use lib.ListN.{length, take};
 ghost use Rattle.basis.specs.Limits.{mostBrought, mostVariables};
-ghost use Rattle.runfile.specs.Readers.{times};
-ghost use Rattle.runfile.specs.File.{byte, instance, ruled, step, end};
+ghost use Rattle.runfile.specs.Readers.{_then_, give, times};
+ghost use Rattle.runfile.specs.File.{byte, instance, ruled, source, sources, step, end};
 ghost use Rattle.fields.specs.Views.{Filled, Fills, after, reached, viewed};
-ghost use Rattle.steps.specs.Records.{FillsSources, Instanced, Packs, PacksSource, ReadsSources, fileAnswer, stepAnswer, stepRecord};
+ghost use Rattle.steps.specs.Records.{Decided, FillsSources, Instanced, Packs, PacksSource, ReadsSources, fileAnswer, outlineAnswer, outlineOf, stepRecord, stepThere};
 use asking::Source;
 use asking::Step;
 use asking::no_source;
@@ -17,6 +17,7 @@ use basis::MOST_VARIABLES;
 use basis::SURPLUS;
 use basis::TOO_LONG;
 use basis::form_of;
+use fields::Byte;
 use fields::Cursor;
 use fields::byte_at;
 use fields::count_at;
@@ -46,9 +47,22 @@ struct InstanceRead {
     at: Cursor,
 }
 
-// A step and the cursor after it; a blank step where it is refused
-pub struct StepRead {
-    pub step: Step,
+// A step but for the atoms that it brings, which are counted: rule number and arguments; those that the rule has no use for are 0.
+pub struct Outline {
+    pub rule: u8,
+    pub clause: u8,
+    pub literal: u8,
+    pub other: u8,
+    pub sign: u8,
+    pub amount: u8,
+    pub count: u8,
+    pub brought: u8,
+    pub instance: [u8; MOST_VARIABLES],
+}
+
+// A step so read, and the cursor after the whole of it; a blank one where it is refused
+pub struct OutlineRead {
+    pub outline: Outline,
     pub at: Cursor,
 }
 
@@ -157,15 +171,47 @@ fn sources_at(s: &[u8], at: Cursor, form: Form) -> SourcesRead
     atoms_at(s, past, n.value)
 }
 
+// Where n of them end
+fn atoms_end(s: &[u8], at: Cursor, n: u8) -> Cursor
+    ensures { λ r. ⌜ r ≡ reached (after at (times n source (now (s .entry)))) ⌝ }
+{
+    let count = n as usize;
+    let mut past = at;
+    let mut j: usize = 0;
+    while j < count {
+        let read = source_at(s, past);
+        let next = read.at;
+        past = next;
+        j += 1;
+    }
+    past
+}
+
+// How many of them a Decide brings, and the cursor after them
+fn sources_end(s: &[u8], at: Cursor, form: Form) -> Byte
+    ensures { λ r. ⌜ viewed (r .at) (r .value) ≡ after at ((sources form then λ zs. give (length zs)) (now (s .entry))) ⌝ }
+{
+    let brings = form.brings;
+    if !brings {
+        return Byte { value: 0, at: at };
+    }
+    let n = count_at(s, at, MOST_BROUGHT);
+    let past = n.at;
+    let end = atoms_end(s, past, n.value);
+    Byte {
+        value: n.value,
+        at: end,
+    }
+}
+
 // ---- steps
 
 // A step without an instance, and the cursor after it
-fn bare(rule: u8, literal: u8, other: u8, amount: u8, at: Cursor) -> StepRead
-    ensures { λ r. ⌜ r ≡ record { step = stepRecord rule 0 literal other 0 amount []; at = at } ⌝ }
+fn bare(rule: u8, literal: u8, other: u8, amount: u8, at: Cursor) -> OutlineRead
+    ensures { λ r. ⌜ r ≡ record { outline = outlineOf (stepRecord rule 0 literal other 0 amount []); at = at } ⌝ }
 {
     let none = [0u8; MOST_VARIABLES];
-    let blank = no_source();
-    let step = Step {
+    let outline = Outline {
         rule: rule,
         clause: 0,
         literal: literal,
@@ -175,20 +221,21 @@ fn bare(rule: u8, literal: u8, other: u8, amount: u8, at: Cursor) -> StepRead
         count: 0,
         brought: 0,
         instance: none,
-        atoms: [blank; MOST_BROUGHT],
     };
-    StepRead { step: step, at: at }
+    OutlineRead {
+        outline: outline,
+        at: at,
+    }
 }
 
 // A step with an instance, which is still to be read, and the cursor after it
-fn instanced_at(s: &[u8], at: Cursor, rule: u8, clause: u8, literal: u8, sign: u8) -> StepRead
+fn instanced_at(s: &[u8], at: Cursor, rule: u8, clause: u8, literal: u8, sign: u8) -> OutlineRead
     ensures { λ r. ⌜ Instanced (now (s .entry)) at rule clause literal sign r ⌝ }
 {
     let tau = instance_at(s, at);
     let past = tau.at;
     let constants = tau.instance;
-    let blank = no_source();
-    let step = Step {
+    let outline = Outline {
         rule: rule,
         clause: clause,
         literal: literal,
@@ -198,16 +245,15 @@ fn instanced_at(s: &[u8], at: Cursor, rule: u8, clause: u8, literal: u8, sign: u
         count: tau.count,
         brought: 0,
         instance: constants,
-        atoms: [blank; MOST_BROUGHT],
     };
-    StepRead {
-        step: step,
+    OutlineRead {
+        outline: outline,
         at: past,
     }
 }
 
-fn propagate_at(s: &[u8], at: Cursor, form: Form) -> StepRead
-    ensures { λ r. ⌜ Packs (now (s .entry)) (ruled form 1) at (r .at) (r .step) ⌝ }
+fn propagate_at(s: &[u8], at: Cursor, form: Form) -> OutlineRead
+    ensures { λ r. ⌜ Packs (now (s .entry)) (ruled form 1) at (r .at) (r .outline) ⌝ }
 {
     let c = byte_at(s, at);
     let past_c = c.at;
@@ -216,8 +262,9 @@ fn propagate_at(s: &[u8], at: Cursor, form: Form) -> StepRead
     instanced_at(s, past_l, 1, c.value, l.value, 0)
 }
 
-fn decide_at(s: &[u8], at: Cursor, form: Form) -> StepRead
-    ensures { λ r. ⌜ Packs (now (s .entry)) (ruled form 2) at (r .at) (r .step) ⌝ }
+// A Decide up to the count of the atoms that it brings
+fn decided_at(s: &[u8], at: Cursor) -> OutlineRead
+    ensures { λ r. ⌜ Decided (now (s .entry)) at r ⌝ }
 {
     let c = byte_at(s, at);
     let past_c = c.at;
@@ -225,22 +272,26 @@ fn decide_at(s: &[u8], at: Cursor, form: Form) -> StepRead
     let past_l = l.at;
     let sign = within_at(s, past_l, 0, 1);
     let past_sign = sign.at;
-    let read = instanced_at(s, past_sign, 2, c.value, l.value, sign.value);
+    instanced_at(s, past_sign, 2, c.value, l.value, sign.value)
+}
+
+fn decide_at(s: &[u8], at: Cursor, form: Form) -> OutlineRead
+    ensures { λ r. ⌜ Packs (now (s .entry)) (ruled form 2) at (r .at) (r .outline) ⌝ }
+{
+    let read = decided_at(s, at);
     let past = read.at;
-    let zs = sources_at(s, past, form);
-    let end = zs.at;
-    let atoms = zs.atoms;
-    let mut step = read.step;
-    step.brought = zs.count;
-    step.atoms = atoms;
-    StepRead {
-        step: step,
+    let n = sources_end(s, past, form);
+    let end = n.at;
+    let mut outline = read.outline;
+    outline.brought = n.value;
+    OutlineRead {
+        outline: outline,
         at: end,
     }
 }
 
-fn factorize_at(s: &[u8], at: Cursor, form: Form) -> StepRead
-    ensures { λ r. ⌜ Packs (now (s .entry)) (ruled form 5) at (r .at) (r .step) ⌝ }
+fn factorize_at(s: &[u8], at: Cursor, form: Form) -> OutlineRead
+    ensures { λ r. ⌜ Packs (now (s .entry)) (ruled form 5) at (r .at) (r .outline) ⌝ }
 {
     let l = byte_at(s, at);
     let past_l = l.at;
@@ -250,8 +301,8 @@ fn factorize_at(s: &[u8], at: Cursor, form: Form) -> StepRead
 }
 
 // The arguments of a rule
-fn arguments_at(s: &[u8], at: Cursor, form: Form, rule: u8) -> StepRead
-    ensures { λ r. ⌜ Packs (now (s .entry)) (ruled form rule) at (r .at) (r .step) ⌝ }
+fn arguments_at(s: &[u8], at: Cursor, form: Form, rule: u8) -> OutlineRead
+    ensures { λ r. ⌜ Packs (now (s .entry)) (ruled form rule) at (r .at) (r .outline) ⌝ }
 {
     match rule {
         1 => propagate_at(s, at, form),
@@ -282,17 +333,17 @@ fn arguments_at(s: &[u8], at: Cursor, form: Form, rule: u8) -> StepRead
 }
 
 // A step from a cursor on
-fn step_from(s: &[u8], at: Cursor, form: Form) -> StepRead
-    ensures { λ r. ⌜ Packs (now (s .entry)) (step form) at (r .at) (r .step) ⌝ }
+fn step_from(s: &[u8], at: Cursor, form: Form) -> OutlineRead
+    ensures { λ r. ⌜ Packs (now (s .entry)) (step form) at (r .at) (r .outline) ⌝ }
 {
     let rule = rule_at(s, at);
     let past = rule.at;
     arguments_at(s, past, form, rule.value)
 }
 
-// The step at a place, and the cursor after it
-pub fn step_at(s: &[u8], place: usize, form: Form) -> StepRead
-    ensures { λ r. ⌜ r ≡ stepAnswer (step form (now (s .entry)) place) ⌝ }
+// The step at a place but for its atoms, and the cursor after the whole of it
+pub fn outline_at(s: &[u8], place: usize, form: Form) -> OutlineRead
+    ensures { λ r. ⌜ r ≡ outlineAnswer (step form (now (s .entry)) place) ⌝ }
 {
     let start = Cursor::At { place: place };
     let read = step_from(s, start, form);
@@ -304,6 +355,34 @@ pub fn step_at(s: &[u8], place: usize, form: Form) -> StepRead
         return bare(0, 0, 0, 0, past);
     }
     read
+}
+
+// The whole step at a place at which a Decide stands
+pub fn decision_at(s: &[u8], place: usize, form: Form) -> Step
+    requires { ⌜ stepThere (step form (now s) place) .rule ≡ 2 ⌝ }
+    ensures { λ r. ⌜ r ≡ stepThere (step form (now (s .entry)) place) ⌝ }
+{
+    let start = Cursor::At { place: place };
+    let rule = rule_at(s, start);
+    let past = rule.at;
+    let read = decided_at(s, past);
+    let end = read.at;
+    let zs = sources_at(s, end, form);
+    let outline = read.outline;
+    let instance = outline.instance;
+    let atoms = zs.atoms;
+    Step {
+        rule: 2,
+        clause: outline.clause,
+        literal: outline.literal,
+        other: 0,
+        sign: outline.sign,
+        amount: 0,
+        count: outline.count,
+        brought: zs.count,
+        instance: instance,
+        atoms: atoms,
+    }
 }
 
 // ---- the whole file

@@ -24,16 +24,17 @@ use Rattle.calculus.proofs.Answers.{number-in-table}
 use Rattle.calculus.proofs.Runs.{admitted-reached, steps-keep-reached}
 use Rattle.runfile.specs.Readers.{got}
 use Rattle.runfile.specs.File.{File, file, header, mostSteps, step, opened}
+use Rattle.fields.specs.Views.{reached}
 use Rattle.fields.specs.declared.Cursor.the-variants as C
 use Rattle.clauses.specs.Records.{clauseOf, packed}
 use Rattle.clauses.specs.declared.Clause.{Clause}
 use Rattle.clauses.proofs.Records.{pastTable}
 use Rattle.header.specs.Records.{inputOf}
 use Rattle.header.specs.declared.HeaderRead.{HeaderRead}
-use Rattle.rules.specs.Answers.{AnsweredNamed, Handed, HandedNamed, Kept, RunOf, Told}
+use Rattle.rules.specs.Answers.{Answered, AnsweredNamed, Answers, Handed, HandedNamed, Kept, RunOf, Told}
 use Rattle.asking.specs.Looking.{countLooked, lookedAt, lookedIn, namedAt, numberLooked, rightIn, slotOf}
 use Rattle.rules.specs.Records.{packedRun}
-use Rattle.asking.specs.Steps.{sourceOf, stepOf}
+use Rattle.asking.specs.Steps.{decideOf, sourceOf, stepOf}
 use Rattle.asking.specs.declared.Looked.{Looked}
 use Rattle.asking.specs.declared.Named.{Named}
 use Rattle.asking.proofs.Finding.{named-last, named-turn, namedUpto}
@@ -42,17 +43,20 @@ use Rattle.rules.specs.declared.Run.{Run}
 use Rattle.asking.specs.declared.Step.{Step}
 use Rattle.rules.specs.declared.Stepped.{Stepped}
 use Rattle.rules.proofs.Runs.{clauses-is, constants-is, fine, kept-small, version-is}
-use Rattle.steps.specs.Records.{fileAnswer, stepAnswer}
-use Rattle.steps.specs.declared.StepRead.{StepRead}
+use Rattle.rules.proofs.Steps.{answered-as, answers-as, decide-step, handed-as}
+use Rattle.steps.specs.Records.{fileAnswer, outlineAnswer, outlineOf, stepThere}
+use Rattle.steps.specs.declared.Outline.{Outline}
+use Rattle.steps.specs.declared.OutlineRead.{OutlineRead}
 use Rattle.steps.proofs.Files.{Ahead, Reads, Stepping, file-reads, step-ahead}
 use Rattle.state.specs.States.{newRun, packedTable, tableAfter}
 use Rattle.state.proofs.Table.{found, looks-at, table-after}
 use Rattle.text.specs.Text.{Wrote}
 use Rattle.clausetext.specs.Room.{Put}
 use Rattle.text.proofs.Text.{and-then, as-text, same-long}
-use Rattle.listing.specs.Lines.{acceptedLine, mostLine, refusedLine}
+use Rattle.listing.specs.Lines.{acceptedLine, mostLine, refusedLine, ruleName}
+use Rattle.listing.specs.Records.{nameOf}
 use Rattle.listing.specs.Listing.{TriedWith, went, refused, through}
-use Rattle.listing.proofs.Lines.{length-accepted, length-refused}
+use Rattle.listing.proofs.Lines.{length-accepted, length-refused, names-rule}
 use Rattle.trail.specs.Entries.{pastEnd}
 use Rattle.trying.specs.Running.{placeOf, textBeneath}
 use Rattle.trying.specs.Texts.{beneath, mostBeneath, mostText}
@@ -190,56 +194,82 @@ module _ {numbered : Bool} {s d d′ : List ℕ} {version : Version} {n cursor a
   run-version : version ≡ run .version
   run-version = S .of-version ∙ sym (version-is (S .run-of))
 
-  -- The step x was read, of the clause table it looks at q, and m atoms of it are looked at there.
-  module _ (x : Step) {m : ℕ} (count : m ≡ countLooked version x) where
-    -- One turn more of the loop over these atoms
-    pub finds-more : (i : ℕ) → i < m → length (x .atoms) ≡ mostBrought → {k : ℕ} {q : Looked} {right b right′ : Bool} {az : List Atom} {a : Atom}
-        → k ≡ slotOf (getD (x .atoms) i pastSource .clause) → q ≡ lookedIn (getD (x .atoms) i pastSource .clause) (getD table k pastTable)
-        → b ≡ rightIn (run .constants) (run .input + run .learned) (q .clause) (getD (x .atoms) i pastSource) → right′ ≡ (right && b)
-        → a ≡ sourceIn (clauseOf (q .clause)) (sourceOf (getD (x .atoms) i pastSource))
-        → Finds run table x i (record { right = right; at = az }) → Finds run table x (i + 1) (record { right = right′; at = set az i a })
-    finds-more i h long slot looked right-is so atom found-before z R is =
-        named-turn z (fine R .limited) table (found R is pastTable) x i (constants-is R) (clauses-is R)
-        (omega (arith, count, ap (λ (v : Version). countLooked v x) (run-version ∙ version-is R))) long slot looked right-is so atom (found-before z R is)
+  -- The atoms of the Decide y are looked at, m of them: one turn more of the loop over them
+  pub finds-more : (y : Step) {m : ℕ} → m ≡ countLooked version y → (i : ℕ) → i < m → length (y .atoms) ≡ mostBrought → {k : ℕ} {q : Looked} {right b right′ : Bool} {az : List Atom} {a : Atom}
+      → k ≡ slotOf (getD (y .atoms) i pastSource .clause) → q ≡ lookedIn (getD (y .atoms) i pastSource .clause) (getD table k pastTable)
+      → b ≡ rightIn (run .constants) (run .input + run .learned) (q .clause) (getD (y .atoms) i pastSource) → right′ ≡ (right && b)
+      → a ≡ sourceIn (clauseOf (q .clause)) (sourceOf (getD (y .atoms) i pastSource))
+      → Finds run table y i (record { right = right; at = az }) → Finds run table y (i + 1) (record { right = right′; at = set az i a })
+  finds-more y count i h long slot looked right-is so atom found-before z R is =
+      named-turn z (fine R .limited) table (found R is pastTable) y i (constants-is R) (clauses-is R)
+      (omega (arith, count, ap (λ (v : Version). countLooked v y) (run-version ∙ version-is R))) long slot looked right-is so atom (found-before z R is)
 
-    -- The last turn is over, and what the step looks at was found.
-    module _ {i : ℕ} (over : m ≤ i) {named : Named} (names : Finds run table x i named)
-        {e c k : ℕ} {q : Looked} (last : e ≡ run .length - 1) (number : c ≡ numberLooked (getD (run .trail) e pastEnd) x) (slot : k ≡ slotOf c) (looked : q ≡ lookedIn c (getD table k pastTable)) where
-      looks : q ≡ lookedAt (S .state) (stepOf x)
-      looks = looks-at (S .run-of) (S .table-is) x last number slot looked
+  -- The outline o of the step x was read, and of the clause table it looks at q.
+  module _ (x : Step) {o : Outline} (read : o ≡ outlineOf x)
+      {e c k : ℕ} {q : Looked} (last : e ≡ run .length - 1) (number : c ≡ numberLooked (getD (run .trail) e pastEnd) (o .rule) (o .clause)) (slot : k ≡ slotOf c) (looked : q ≡ lookedIn c (getD table k pastTable)) where
+    looks : q ≡ lookedAt (S .state) (stepOf x)
+    looks = looks-at (S .run-of) (S .table-is) x last (number ∙ (λ i. numberLooked (getD (run .trail) e pastEnd) (read i .rule) (read i .clause))) slot looked
 
-      named-is : named ≡ namedAt (S .state) (stepOf x)
-      named-is = names (S .state) (S .run-of) (S .table-is) ∙ named-last (S .state) x (count ∙ ap (λ (v : Version). countLooked v x) (S .of-version)) over
+    -- What its rule is handed, and what it answers; y is the step as the rule has it.
+    module _ {y : states.Step} (is : stepOf x ≡ y) where
+      pub handed : Handed run q y
+      handed = handed-as is (S .state, S .run-of, looks)
 
-      pub handed : Handed run q (stepOf x)
-      handed = (S .state, S .run-of, looks)
+      pub told-looked : {a b : Stepped} → a ≡ b → Answered run q y b → Told (S .state) (stepOf x) a
+      told-looked p answered = answered-as is p answered (S .state) (S .run-of) looks
 
-      pub handed-named : HandedNamed run q named (stepOf x)
-      handed-named = (S .state, S .run-of, looks, named-is)
+      pub told-alone : {a b : Stepped} → a ≡ b → Answers run y b → Told (S .state) (stepOf x) a
+      told-alone p answers = answers-as is p answers (S .state) (S .run-of) looks
 
-      -- What was answered is told of the state that stands.
-      pub told-of : {a : Stepped} → AnsweredNamed run q named (stepOf x) a → Told (S .state) (stepOf x) a
-      told-of answered = answered (S .state) (S .run-of) looks named-is
+    -- The Decide y was read of it, and the last turn over its atoms is over.
+    module _ (y : Step) (same : y ≡ x) (rule : o .rule ≡ 2) {m i : ℕ} (count : m ≡ countLooked version y) (over : m ≤ i) {named : Named} (names : Finds run table y i named) where
+      decides : stepOf y ≡ decideOf y
+      decides = decide-step y (ap (λ (z : Step). z .rule) same ∙ sym (ap (λ (z : Outline). z .rule) read) ∙ rule)
 
-  -- The step r was read and answered by a.
-  module _ (h : j < n) {form : Form} (form-is : form ≡ formOf version) {r : StepRead} (e : r ≡ stepAnswer (step form s cursor)) {a : Stepped} (told : Told (S .state) (stepOf (r .step)) a) where
-    now : Stepping s (formOf version) (S .others) r
-    now = step-ahead s (formOf version) cursor (S .others) r (S .ahead) (omega (arith, S .count)) (e ∙ ap (λ (f : Form). stepAnswer (step f s cursor)) form-is)
+      is : stepOf x ≡ decideOf y
+      is = ap stepOf (sym same) ∙ decides
 
-    others-is : stepOf (r .step) ∷ now .others ≡ S .others
-    others-is = ap (λ (x : states.Step). x ∷ now .others) (now .says) ∙ sym (now .all)
+      looks-so : q ≡ lookedAt (S .state) (decideOf y)
+      looks-so = looks ∙ ap (lookedAt (S .state)) is
+
+      named-is : named ≡ namedAt (S .state) (decideOf y)
+      named-is = names (S .state) (S .run-of) (S .table-is) ∙ named-last (S .state) y (count ∙ ap (λ (v : Version). countLooked v y) (S .of-version)) over ∙ ap (namedAt (S .state)) decides
+
+      pub handed-named : HandedNamed run q named (decideOf y)
+      handed-named = (S .state, S .run-of, looks-so, named-is)
+
+      pub told-named : {a b : Stepped} → a ≡ b → AnsweredNamed run q named (decideOf y) b → Told (S .state) (stepOf x) a
+      told-named p answered = transport⁻¹ (λ i. Told (S .state) (is i) (p i)) (answered (S .state) (S .run-of) looks-so named-is)
+
+  -- The step x was read, its outline being r, and answered by a.
+  module _ (h : j < n) {form : Form} (form-is : form ≡ formOf version) {r : OutlineRead} (e : r ≡ outlineAnswer (step form s cursor))
+      {a : Stepped} (told : Told (S .state) (stepOf (stepThere (step form s cursor))) a) where
+    abbrev x : states.Step
+    x = stepOf (stepThere (step form s cursor))
+
+    now : Stepping s (formOf version) cursor (S .others)
+    now = step-ahead s (formOf version) cursor (S .others) (S .ahead) (omega (arith, S .count))
+
+    others-is : x ∷ now .others ≡ S .others
+    others-is = ap (λ (y : states.Step). y ∷ now .others) (ap (λ (f : Form). stepOf (stepThere (step f s cursor))) form-is ∙ now .says) ∙ sym (now .all)
+
+    past-is : placeOf (r .at) ≡ now .next
+    past-is = ap (λ (q : OutlineRead). placeOf (q .at)) e ∙ ap (λ (f : Form). placeOf (reached (step f s cursor))) form-is ∙ ap placeOf (now .at)
+
+    name-is : nameOf (r .outline .rule) ≡ ruleName x
+    name-is = ap (λ (q : OutlineRead). nameOf (q .outline .rule)) e ∙ names-rule (stepThere (step form s cursor))
 
     abbrev b : Answer
     b = told .0
 
     next-reached : Reached (plain whole) (b .state)
-    next-reached = steps-keep-reached (plain whole) (S .state) (stepOf (r .step)) b (S .run-of .reached) (told .2)
+    next-reached = steps-keep-reached (plain whole) (S .state) x b (S .run-of .reached) (told .2)
 
     number-is : a .number ≡ b .number
     number-is = ap (λ (q : Stepped). q .number) (told .4)
 
     -- A refused step: its line is the last, and nothing more is tried; run and table are as they were.
-    pub stop : ¬ (a .number ≡ 0) → {d₂ : List ℕ} {at₂ : ℕ} → Wrote d′ at (refusedLine (j + 1) (stepOf (r .step)) (a .number)) d₂ at₂
+    pub stop : ¬ (a .number ≡ 0) → {d₂ : List ℕ} {at₂ : ℕ} → Wrote d′ at (refusedLine (j + 1) (nameOf (r .outline .rule)) (a .number)) d₂ at₂
         → Ran numbered s d d₂ run table (a .number) (a .place) at₂
     stop z {d₂} {at₂} w = record {
       says = S .says;
@@ -249,9 +279,9 @@ module _ {numbered : Bool} {s d d′ : List ℕ} {version : Version} {n cursor a
       answer = b;
       tried = S .on (line (a .number)) b (subst (λ (xs : List states.Step). TriedWith (plain whole) (beneath numbered) (S .state) (j + 1) xs (line (a .number)) b) others-is
           (subst (λ (k : ℕ). TriedWith (plain whole) (beneath numbered) (S .state) (j + 1) (x ∷ now .others) (line k) b) (sym number-is) (refused b (told .2) (λ q. z (number-is ∙ q)))));
-      wrote = and-then (S .wrote) w;
+      wrote = and-then (S .wrote) so-called;
       short = all-tried numbered (j + 1)
-          (one-more numbered j (S .short) (omega (arith, w .next, length-refused (j + 1) x (a .number) (omega (arith, S .few)) (omega (arith, number-is, number-in-table whole (S .state) x b (told .2))))))
+          (one-more numbered j (S .short) (omega (arith, so-called .next, length-refused (j + 1) x (a .number) (omega (arith, S .few)) (omega (arith, number-is, number-in-table whole (S .state) x b (told .2))))))
           (omega (arith, S .few));
       run-is = S .run-of .is ∙ ap packedRun (sym back);
       table-is = S .table-is ∙ ap (λ (q : states.State). packedTable (clauses q)) (sym back);
@@ -260,11 +290,11 @@ module _ {numbered : Bool} {s d d′ : List ℕ} {version : Version} {n cursor a
       reached = next-reached;
     }
       where
-        x : states.Step
-        x = stepOf (r .step)
-
         line : ℕ → List ℕ
-        line k = refusedLine (j + 1) x k
+        line k = refusedLine (j + 1) (ruleName x) k
+
+        so-called : Wrote d′ at (line (a .number)) d₂ at₂
+        so-called = as-text (ap (λ (name : List ℕ). refusedLine (j + 1) name (a .number)) name-is) w
 
         back : b .state ≡ S .state
         back = told .2 .handed-back (λ q. z (number-is ∙ q))
@@ -274,23 +304,24 @@ module _ {numbered : Bool} {s d d′ : List ℕ} {version : Version} {n cursor a
       run-next : RunOf run₂ (b .state)
       run-next = record { reached = next-reached; is = ran ∙ ap (λ (q : Stepped). q .run) (told .4) }
 
-      line-length : length (acceptedLine (j + 1) (stepOf (r .step)) (run₂ .length) (run₂ .level)) ≤ mostLine
+      line-length : length (acceptedLine (j + 1) (nameOf (r .outline .rule)) (run₂ .length) (run₂ .level)) ≤ mostLine
       line-length =
           let small = kept-small (b .state, run-next) in
-          length-accepted (j + 1) (stepOf (r .step)) (run₂ .length) (run₂ .level) (omega (arith, S .few)) (omega (arith, small .few-entries)) (omega (arith, small .few-entries, small .few-decisions))
+          subst (λ (name : List ℕ). length (acceptedLine (j + 1) name (run₂ .length) (run₂ .level)) ≤ mostLine) (sym name-is)
+          (length-accepted (j + 1) x (run₂ .length) (run₂ .level) (omega (arith, S .few)) (omega (arith, small .few-entries)) (omega (arith, small .few-entries, small .few-decisions)))
 
     few-constants : run .constants ≤ mostConstants
     few-constants = kept-small kept .few-constants
 
     -- Beneath it there is room.
     pub beneath-fits : (shown : Bool) → mostText numbered shown ≤ length d → {run₂ : Run} → run₂ ≡ a .run
-        → {d₁ : List ℕ} {at₁ : ℕ} → Wrote d′ at (acceptedLine (j + 1) (stepOf (r .step)) (run₂ .length) (run₂ .level)) d₁ at₁
+        → {d₁ : List ℕ} {at₁ : ℕ} → Wrote d′ at (acceptedLine (j + 1) (nameOf (r .outline .rule)) (run₂ .length) (run₂ .level)) d₁ at₁
         → (run .constants ≤ mostConstants) × (at₁ + mostBeneath numbered ≤ length d₁)
     beneath-fits shown room ran w = (few-constants, omega (arith, step-room h shown room, line-length ran, w .next, same-long w))
 
     -- An accepted one: its line follows the others, and beneath it what it handed on; what it learned stands in the table.
     pub turn : a .number ≡ 0 → {run₂ : Run} → run₂ ≡ a .run → {table₂ : List Clause} → table₂ ≡ tableAfter table run a
-        → {d₁ d₂ : List ℕ} {at₁ at₂ : ℕ} → Wrote d′ at (acceptedLine (j + 1) (stepOf (r .step)) (run₂ .length) (run₂ .level)) d₁ at₁
+        → {d₁ d₂ : List ℕ} {at₁ at₂ : ℕ} → Wrote d′ at (acceptedLine (j + 1) (nameOf (r .outline .rule)) (run₂ .length) (run₂ .level)) d₁ at₁
         → Put (mostBeneath numbered) d₁ at₁ (textBeneath numbered (run .constants) (a .witness)) d₂ at₂ → {cursor₂ : ℕ} → cursor₂ ≡ placeOf (r .at)
         → SoFar numbered s d version n d₂ run₂ table₂ cursor₂ at₂ (j + 1)
     turn z {run₂} ran {table₂} table-new w u past = record {
@@ -298,7 +329,7 @@ module _ {numbered : Bool} {s d d′ : List ℕ} {version : Version} {n cursor a
       next = S .next;
       is = S .is;
       others = now .others;
-      ahead = subst (λ (i : ℕ). Ahead s (formOf version) i (now .others)) (sym (past ∙ ap placeOf (now .at))) (now .ahead);
+      ahead = subst (λ (i : ℕ). Ahead s (formOf version) i (now .others)) (sym (past ∙ past-is)) (now .ahead);
       count = omega (arith, S .count, ap length (now .all));
       few = S .few;
       state = b .state;
@@ -306,17 +337,14 @@ module _ {numbered : Bool} {s d d′ : List ℕ} {version : Version} {n cursor a
       of-version = S .of-version ∙ sym (version-kept (S .state) x b (told .2));
       table-is = table-new ∙ table-after (S .run-of) x a told (S .table-is);
       lines = S .lines ++ (line (b .state) ++ under);
-      wrote = and-then (S .wrote) (and-then (as-text (λ i. acceptedLine (j + 1) x (run-next ran .is i .length) (run-next ran .is i .level)) w) (u .wrote));
+      wrote = and-then (S .wrote) (and-then (as-text (λ i. acceptedLine (j + 1) (name-is i) (run-next ran .is i .length) (run-next ran .is i .level)) w) (u .wrote));
       short = one-more numbered j (S .short) (omega (arith, u .room, w .next, line-length ran));
       on = λ v e t. subst (λ (l : List ℕ). TriedWith (plain whole) (beneath numbered) (opened (S .says)) 1 (S .says .steps) l e) (grouped v)
           (S .on (line (b .state) ++ (under ++ v)) e (subst (λ (xs : List states.Step). TriedWith (plain whole) (beneath numbered) (S .state) (j + 1) xs (line (b .state) ++ (under ++ v)) e) others-is (went b (told .2) (sym number-is ∙ z) stands-beneath t)));
     }
       where
-        x : states.Step
-        x = stepOf (r .step)
-
         line : states.State → List ℕ
-        line q = acceptedLine (j + 1) x (length (q .trail)) (q .level)
+        line q = acceptedLine (j + 1) (ruleName x) (length (q .trail)) (q .level)
 
         under : List ℕ
         under = textBeneath numbered (run .constants) (a .witness)

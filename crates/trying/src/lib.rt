@@ -30,7 +30,8 @@ use listing::put_accepted;
 use listing::put_last;
 use listing::put_refused;
 use state::new_run;
-use steps::step_at;
+use steps::decision_at;
+use steps::outline_at;
 
 // What trying the steps answers: how many bytes were written, and the number and place of the last answer.
 pub struct Ended {
@@ -89,49 +90,52 @@ pub fn run_steps(
     let mut place: u8 = 0;
     let mut j: usize = 0;
     'steps: while j < n {
-        let read = step_at(file, cursor, form);
-        let x = read.step;
+        let read = outline_at(file, cursor, form);
+        let told = read.outline;
+        let rule = told.rule;
+        let instance = told.instance;
         let last = run.trail[last_slot(run.length)];
-        let c = number_looked(last, x);
+        let c = number_looked(last, rule, told.clause);
         let held = table[slot_of(c)];
         let looked = looked_at(c, held);
-        let brought = count_looked(version, x);
-        let mut right = true;
-        let mut named = [none; MOST_BROUGHT];
-        let mut i: usize = 0;
-        while i < brought {
-            let z = x.atoms[i];
-            let own = table[slot_of(z.clause)];
-            let of = looked_at(z.clause, own);
-            let clause = of.clause;
-            right = also(
-                right,
-                named_rightly(run.constants, run.input, run.learned, z, clause),
-            );
-            named[i] = source_atom(z, clause);
-            i += 1;
-        }
-        let atoms = Named {
-            right: right,
-            at: named,
-        };
-        let rule = x.rule;
-        let instance = x.instance;
         let a = match rule {
-            1 => run.propagate(looked, x.clause, x.literal, instance, x.count),
-            2 => run.decide(looked, atoms, x),
-            3 => run.conflict(looked, x.clause, instance, x.count),
-            4 => run.resolve(looked, x.literal),
-            5 => run.factorize(x.literal, x.other),
+            1 => run.propagate(looked, told.clause, told.literal, instance, told.count),
+            2 => {
+                let x = decision_at(file, cursor, form);
+                let brought = count_looked(version, x);
+                let mut right = true;
+                let mut named = [none; MOST_BROUGHT];
+                let mut i: usize = 0;
+                while i < brought {
+                    let z = x.atoms[i];
+                    let own = table[slot_of(z.clause)];
+                    let of = looked_at(z.clause, own);
+                    let clause = of.clause;
+                    right = also(
+                        right,
+                        named_rightly(run.constants, run.input, run.learned, z, clause),
+                    );
+                    named[i] = source_atom(z, clause);
+                    i += 1;
+                }
+                let atoms = Named {
+                    right: right,
+                    at: named,
+                };
+                run.decide(looked, atoms, x)
+            }
+            3 => run.conflict(looked, told.clause, instance, told.count),
+            4 => run.resolve(looked, told.literal),
+            5 => run.factorize(told.literal, told.other),
             6 => run.skip(),
-            7 => run.backtrack(x.literal),
-            8 => run.grow(x.amount),
+            7 => run.backtrack(told.literal),
+            8 => run.grow(told.amount),
             _ => run.unknown(rule),
         };
         if a.number != 0 {
             number = a.number;
             place = a.place;
-            at = put_refused(out, at, j + 1, x, number);
+            at = put_refused(out, at, j + 1, rule, number);
             break 'steps;
         }
         let learned = a.learned as usize;
@@ -144,7 +148,7 @@ pub fn run_steps(
         let witness = a.witness;
         let next = a.run;
         run = next;
-        at = put_accepted(out, at, j + 1, x, run.length, run.level);
+        at = put_accepted(out, at, j + 1, rule, run.length, run.level);
         at = put_beneath(out, at, numbered, constants, witness);
         let past = read.at;
         cursor = place_of(past);

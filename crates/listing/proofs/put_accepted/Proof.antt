@@ -1,5 +1,4 @@
 use native.Mathlib.Omega.{arith}
-use Rattle.asking.specs.Steps.{stepOf}
 use Rattle.text.proofs.Text.{and-then}
 use Rattle.listing.specs.Lines.{acceptedLine}
 use Rattle.listing.proofs.Lines.{length-numbered, digits-byte}
@@ -8,19 +7,19 @@ use Rattle.listing.proofs.put_accepted.Statement.{statement}
 use Rattle.listing.proofs.put_accepted.Tie as tie
 
 put-byte-requires : tie.Need-put-byte-requires
-put-byte-requires c κs = omega (arith, length-numbered (c .before .before .before .before .before .before .args .n) (stepOf (c .before .before .before .before .before .before .args .x)) (c .before .before .before .before .before .before .pre .0), digits-byte (c .before .before .before .before .before .before .args .trail) (omega arith), digits-byte (c .before .before .before .before .before .before .args .level) (omega arith))
+put-byte-requires c κs = omega (arith, length-numbered (c .before .before .before .before .before .before .args .n) (c .before .before .before .before .before .before .args .rule) (c .before .before .before .before .before .before .pre .0), digits-byte (c .before .before .before .before .before .before .args .trail) (omega arith), digits-byte (c .before .before .before .before .before .before .args .level) (omega arith))
 
 put-decimal-requires : tie.Need-put-decimal-requires
-put-decimal-requires c κs = omega (arith, length-numbered (c .before .before .before .before .before .before .before .before .before .before .args .n) (stepOf (c .before .before .before .before .before .before .before .before .before .before .args .x)) (c .before .before .before .before .before .before .before .before .before .before .pre .0), digits-byte (c .before .before .before .before .before .before .before .before .before .before .args .trail) (omega arith), digits-byte (c .before .before .before .before .before .before .before .before .before .before .args .level) (omega arith))
+put-decimal-requires c κs = omega (arith, length-numbered (c .before .before .before .before .before .before .before .before .before .before .args .n) (c .before .before .before .before .before .before .before .before .before .before .args .rule) (c .before .before .before .before .before .before .before .before .before .before .pre .0), digits-byte (c .before .before .before .before .before .before .before .before .before .before .args .trail) (omega arith), digits-byte (c .before .before .before .before .before .before .before .before .before .before .args .level) (omega arith))
 
 put-byte-requires-2 : tie.Need-put-byte-requires-2
-put-byte-requires-2 c κs = omega (arith, length-numbered (c .before .before .before .before .before .before .before .before .before .before .before .before .before .before .args .n) (stepOf (c .before .before .before .before .before .before .before .before .before .before .before .before .before .before .args .x)) (c .before .before .before .before .before .before .before .before .before .before .before .before .before .before .pre .0), digits-byte (c .before .before .before .before .before .before .before .before .before .before .before .before .before .before .args .trail) (omega arith), digits-byte (c .before .before .before .before .before .before .before .before .before .before .before .before .before .before .args .level) (omega arith))
+put-byte-requires-2 c κs = omega (arith, length-numbered (c .before .before .before .before .before .before .before .before .before .before .before .before .before .before .args .n) (c .before .before .before .before .before .before .before .before .before .before .before .before .before .before .args .rule) (c .before .before .before .before .before .before .before .before .before .before .before .before .before .before .pre .0), digits-byte (c .before .before .before .before .before .before .before .before .before .before .before .before .before .before .args .trail) (omega arith), digits-byte (c .before .before .before .before .before .before .before .before .before .before .before .before .before .before .args .level) (omega arith))
 
 put-decimal-requires-2 : tie.Need-put-decimal-requires-2
-put-decimal-requires-2 c κs = omega (arith, length-numbered (c .before .before .before .before .before .before .before .before .before .before .before .before .before .before .before .before .before .before .args .n) (stepOf (c .before .before .before .before .before .before .before .before .before .before .before .before .before .before .before .before .before .before .args .x)) (c .before .before .before .before .before .before .before .before .before .before .before .before .before .before .before .before .before .before .pre .0), digits-byte (c .before .before .before .before .before .before .before .before .before .before .before .before .before .before .before .before .before .before .args .trail) (omega arith), digits-byte (c .before .before .before .before .before .before .before .before .before .before .before .before .before .before .before .before .before .before .args .level) (omega arith))
+put-decimal-requires-2 c κs = omega (arith, length-numbered (c .before .before .before .before .before .before .before .before .before .before .before .before .before .before .before .before .before .before .args .n) (c .before .before .before .before .before .before .before .before .before .before .before .before .before .before .before .before .before .before .args .rule) (c .before .before .before .before .before .before .before .before .before .before .before .before .before .before .before .before .before .before .pre .0), digits-byte (c .before .before .before .before .before .before .before .before .before .before .before .before .before .before .before .before .before .before .args .trail) (omega arith), digits-byte (c .before .before .before .before .before .before .before .before .before .before .before .before .before .before .before .before .before .before .args .level) (omega arith))
 
 put-byte-requires-3 : tie.Need-put-byte-requires-3
-put-byte-requires-3 c κs = omega (arith, length-numbered (c .before .before .before .before .before .before .before .before .before .before .before .before .before .before .before .before .before .before .before .before .before .before .args .n) (stepOf (c .before .before .before .before .before .before .before .before .before .before .before .before .before .before .before .before .before .before .before .before .before .before .args .x)) (c .before .before .before .before .before .before .before .before .before .before .before .before .before .before .before .before .before .before .before .before .before .before .pre .0), digits-byte (c .before .before .before .before .before .before .before .before .before .before .before .before .before .before .before .before .before .before .before .before .before .before .args .trail) (omega arith), digits-byte (c .before .before .before .before .before .before .before .before .before .before .before .before .before .before .before .before .before .before .before .before .before .before .args .level) (omega arith))
+put-byte-requires-3 c κs = omega (arith, length-numbered (c .before .before .before .before .before .before .before .before .before .before .before .before .before .before .before .before .before .before .before .before .before .before .args .n) (c .before .before .before .before .before .before .before .before .before .before .before .before .before .before .before .before .before .before .before .before .before .before .args .rule) (c .before .before .before .before .before .before .before .before .before .before .before .before .before .before .before .before .before .before .before .before .before .before .pre .0), digits-byte (c .before .before .before .before .before .before .before .before .before .before .before .before .before .before .before .before .before .before .before .before .before .before .args .trail) (omega arith), digits-byte (c .before .before .before .before .before .before .before .before .before .before .before .before .before .before .before .before .before .before .before .before .before .before .args .level) (omega arith))
 
 returns : tie.Need-returns
 unfolding acceptedLine

@@ -1,5 +1,4 @@
 use native.Mathlib.Omega.{arith}
-use Rattle.asking.specs.Steps.{stepOf}
 use Rattle.text.proofs.Text.{and-then}
 use Rattle.listing.specs.Lines.{refusedLine}
 use Rattle.listing.proofs.Lines.{length-numbered, digits-byte}
@@ -8,13 +7,13 @@ use Rattle.listing.proofs.put_refused.Statement.{statement}
 use Rattle.listing.proofs.put_refused.Tie as tie
 
 put-word-requires : tie.Need-put-word-requires
-put-word-requires c κs = omega (arith, length-numbered (c .before .before .before .before .before .before .before .args .n) (stepOf (c .before .before .before .before .before .before .before .args .x)) (c .before .before .before .before .before .before .before .pre .0))
+put-word-requires c κs = omega (arith, length-numbered (c .before .before .before .before .before .before .before .args .n) (c .before .before .before .before .before .before .before .args .rule) (c .before .before .before .before .before .before .before .pre .0))
 
 put-decimal-requires : tie.Need-put-decimal-requires
-put-decimal-requires c κs = omega (arith, length-numbered (c .before .before .before .before .before .before .before .before .before .before .before .args .n) (stepOf (c .before .before .before .before .before .before .before .before .before .before .before .args .x)) (c .before .before .before .before .before .before .before .before .before .before .before .pre .0), digits-byte (c .before .before .before .before .before .before .before .before .before .before .before .args .refusal) (omega arith))
+put-decimal-requires c κs = omega (arith, length-numbered (c .before .before .before .before .before .before .before .before .before .before .before .args .n) (c .before .before .before .before .before .before .before .before .before .before .before .args .rule) (c .before .before .before .before .before .before .before .before .before .before .before .pre .0), digits-byte (c .before .before .before .before .before .before .before .before .before .before .before .args .refusal) (omega arith))
 
 put-byte-requires : tie.Need-put-byte-requires
-put-byte-requires c κs = omega (arith, length-numbered (c .before .before .before .before .before .before .before .before .before .before .before .before .before .before .before .args .n) (stepOf (c .before .before .before .before .before .before .before .before .before .before .before .before .before .before .before .args .x)) (c .before .before .before .before .before .before .before .before .before .before .before .before .before .before .before .pre .0), digits-byte (c .before .before .before .before .before .before .before .before .before .before .before .before .before .before .before .args .refusal) (omega arith))
+put-byte-requires c κs = omega (arith, length-numbered (c .before .before .before .before .before .before .before .before .before .before .before .before .before .before .before .args .n) (c .before .before .before .before .before .before .before .before .before .before .before .before .before .before .before .args .rule) (c .before .before .before .before .before .before .before .before .before .before .before .before .before .before .before .pre .0), digits-byte (c .before .before .before .before .before .before .before .before .before .before .before .before .before .before .before .args .refusal) (omega arith))
 
 returns : tie.Need-returns
 unfolding refusedLine

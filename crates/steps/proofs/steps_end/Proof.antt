@@ -22,10 +22,10 @@ loop-holds : tie.Need-loop-holds Inv-loop μ-loop
 loop-holds c = (omega arith, ends-none (now (c .before .args .s)) (step (c .before .args .form)) (c .before .args .at))
 
 returns : tie.Need-returns Inv-loop μ-loop
-returns c = let g = c .before .next .given in sym (g .1) ∙ ends-refused (now (c .before .before .before .before .before .before .before .args .s)) (step (c .before .before .before .before .before .before .before .args .form)) (c .before .before .before .before .before .before .before .args .at) (c .before .before .before .step-from .result .at) (c .before .before .before .before .before .loop .j + 1) (c .before .before .before .before .before .before .before .args .n) (g .0 .0) (g .0 .1 .0) (g .1) (omega arith) (ends-more (now (c .before .before .before .before .before .before .before .args .s)) (step (c .before .before .before .before .before .before .before .args .form)) (c .before .before .before .before .before .before .before .args .at) (c .before .before .before .before .before .loop .past) (c .before .before .before .step-from .result .at) (c .before .before .before .before .before .loop .j) (c .before .before .before .before .before .loop .inv .1) (step-ends (now (c .before .before .before .before .before .before .before .args .s)) (c .before .before .before .before .before .before .before .args .form) (c .before .before .before .before .before .loop .past) (c .before .before .before .step-from .result .at) (c .before .before .before .step-from .result .step) (c .before .before .before .step-from .ensures)))
+returns c = let g = c .before .next .given in sym (g .1) ∙ ends-refused (now (c .before .before .before .before .before .before .before .args .s)) (step (c .before .before .before .before .before .before .before .args .form)) (c .before .before .before .before .before .before .before .args .at) (c .before .before .before .step-from .result .at) (c .before .before .before .before .before .loop .j + 1) (c .before .before .before .before .before .before .before .args .n) (g .0 .0) (g .0 .1 .0) (g .1) (omega arith) (ends-more (now (c .before .before .before .before .before .before .before .args .s)) (step (c .before .before .before .before .before .before .before .args .form)) (c .before .before .before .before .before .before .before .args .at) (c .before .before .before .before .before .loop .past) (c .before .before .before .step-from .result .at) (c .before .before .before .before .before .loop .j) (c .before .before .before .before .before .loop .inv .1) (step-ends (now (c .before .before .before .before .before .before .before .args .s)) (c .before .before .before .before .before .before .before .args .form) (c .before .before .before .before .before .loop .past) (c .before .before .before .step-from .result .at) (c .before .before .before .step-from .result .outline) (c .before .before .before .step-from .ensures)))
 
 loop-again : tie.Need-loop-again Inv-loop μ-loop
-loop-again c = (omega arith, ends-more (now (c .before .before .before .before .before .before .args .s)) (step (c .before .before .before .before .before .before .args .form)) (c .before .before .before .before .before .before .args .at) (c .before .before .before .before .loop .past) (c .before .before .step-from .result .at) (c .before .before .before .before .loop .j) (c .before .before .before .before .loop .inv .1) (step-ends (now (c .before .before .before .before .before .before .args .s)) (c .before .before .before .before .before .before .args .form) (c .before .before .before .before .loop .past) (c .before .before .step-from .result .at) (c .before .before .step-from .result .step) (c .before .before .step-from .ensures)))
+loop-again c = (omega arith, ends-more (now (c .before .before .before .before .before .before .args .s)) (step (c .before .before .before .before .before .before .args .form)) (c .before .before .before .before .before .before .args .at) (c .before .before .before .before .loop .past) (c .before .before .step-from .result .at) (c .before .before .before .before .loop .j) (c .before .before .before .before .loop .inv .1) (step-ends (now (c .before .before .before .before .before .before .args .s)) (c .before .before .before .before .before .before .args .form) (c .before .before .before .before .loop .past) (c .before .before .step-from .result .at) (c .before .before .step-from .result .outline) (c .before .before .step-from .ensures)))
 
 returns-2 : tie.Need-returns-2 Inv-loop μ-loop
 returns-2 c = let e : c .before .loop .j ≡ c .before .before .before .args .n = omega arith in rw e at (c .before .loop .inv .1)
