@@ -2,6 +2,7 @@
 
 pub mod beside;
 pub mod mutate;
+pub mod single;
 pub mod steps;
 pub mod tables;
 pub mod timing;

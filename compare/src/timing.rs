@@ -21,6 +21,12 @@ impl Spread {
     pub fn far(&self) -> f64 {
         self.low.abs().max(self.high.abs())
     }
+
+    /// The median and, in brackets, the middle half, with so many digits behind the point
+    pub fn text(&self, digits: usize) -> String {
+        let Spread { low, median, high } = self;
+        format!("{median:.digits$} ({low:.digits$} to {high:.digits$})")
+    }
 }
 
 /// Of one of so many calls

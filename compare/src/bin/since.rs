@@ -1,10 +1,11 @@
-//! Times the exported functions of this tree beside those of an earlier commit on the same inputs: the sets of bench/constraint, and the files of
-//! bench/files. `bench/since` links both into this program, with `before_` and `after_` put before their names.
+//! Times the exported functions of this tree beside those of an earlier commit on the same inputs: the sets of bench/constraint, and the files and
+//! single steps of bench/files. `bench/since` links both into this program, with `before_` and `after_` put before their names.
 //!
 //! The two sides are timed in turn, many times over, and each turn begins with the other of them. Printed are the medians of the turns: what each
-//! side takes, and the ratio, with the middle half of the turns' ratios in brackets. Rows together are the sums of what each side takes. Before
-//! that it is seen that both sides answer the same; so of a version that the earlier commit does not know there are no rows, and no files of more
-//! bytes than every commit reads.
+//! side takes, and the ratio, with the middle half of the turns' ratios in brackets. A single step is what a file with such steps takes more than
+//! the file without them; how that is timed, and what is marked as noise, `compare::single` says. Rows together are the sums of what each side
+//! takes, and the mean of the ratios; a step without a ratio is left out. Before a row is timed it is seen that both sides answer the same; so of
+//! a version that the earlier commit does not know there are no rows, and no files of more bytes than every commit reads.
 
 #[path = "../../../bench/sets.rs"]
 mod sets;
@@ -13,7 +14,9 @@ use checker::file::{write, RunFile, VERSIONS};
 use checker::generate::generate_version;
 use checker::limits;
 use checker::listing::run;
+use compare::single::{print_head, print_row, timed, Call, Side};
 use compare::steps;
+use compare::steps::Near;
 use compare::timing::{enough, seconds, Spread};
 use drf::MOST_LISTING;
 use sets::{Row, Set, CONSTANTS};
@@ -146,9 +149,12 @@ fn row<T, A>(
 /// Prints what some rows come to together.
 fn together(name: &str, rows: &[Took]) {
     let sum = |of: fn(&Took) -> f64| rows.iter().map(of).sum::<f64>();
-    let all = sum(|took| took.after) / sum(|took| took.before);
-    let mean = sum(|took| took.ratio) / rows.len() as f64;
-    println!("{name}: {} rows, together {all:.3}, mean of the ratios {mean:.3}\n", rows.len());
+    let (before, after) = (sum(|took| took.before), sum(|took| took.after));
+    let (all, mean) = (after / before, sum(|took| took.ratio) / rows.len() as f64);
+    println!(
+        "{name}: {} rows, {before:.0} ns before, {after:.0} ns after, together {all:.3}, mean of the ratios {mean:.3}\n",
+        rows.len()
+    );
 }
 
 /// The test on each row of sets
@@ -163,15 +169,40 @@ fn test_rows(after: impl Fn(&Set) -> u32) -> Vec<Took> {
     took
 }
 
+/// Sees that both sides tell the same of some files.
+fn see_same<'a>(name: &str, files: impl IntoIterator<Item = &'a Vec<u8>>) {
+    let (mut one, mut other) = (vec![0; MOST_LISTING], vec![0; MOST_LISTING]);
+    for file in files {
+        let before = told(before_drf_judge, file, &mut one);
+        assert!(before == told(after_drf_judge, file, &mut other), "{name}");
+    }
+}
+
 /// Judging of some files, one after the other
 fn judge_row(name: &str, files: &[Vec<u8>]) -> Took {
+    see_same(name, files);
     let (mut one, mut other) = (vec![0; MOST_LISTING], vec![0; MOST_LISTING]);
-    let mut before = |file: &Vec<u8>| told(before_drf_judge, file, &mut one).to_vec();
-    let mut after = |file: &Vec<u8>| told(after_drf_judge, file, &mut other).to_vec();
-    assert!(files.iter().all(|file| before(file) == after(file)), "{name}");
     let before = |file: &Vec<u8>| told(before_drf_judge, file, &mut one).len();
     let after = |file: &Vec<u8>| told(after_drf_judge, file, &mut other).len();
     row(name, files, before, after)
+}
+
+/// Judging of one file, again and again
+fn judges(tells: Tells, file: &[u8]) -> Call<'_> {
+    let mut out = vec![0; MOST_LISTING];
+    Box::new(move || _ = black_box(told(tells, black_box(file), &mut out).len()))
+}
+
+/// A single step, where there is a ratio
+fn step_row(near: &Near) -> Option<Took> {
+    see_same(&near.name, [&near.without, &near.with]);
+    let sides: [Side; 2] =
+        [|file| judges(before_drf_judge, file), |file| judges(after_drf_judge, file)];
+    let steps = timed(near, sides);
+    let ratio = steps[1].over(&steps[0]);
+    print_row(near, &steps, &ratio, 3);
+    let [before, after] = steps.map(|step| step.each.median);
+    ratio.map(|ratio| Took { before, after, ratio: ratio.median })
 }
 
 /// Whether the earlier commit reads files of a version
@@ -197,9 +228,19 @@ fn judge_rows() -> Vec<Took> {
         took.push(judge_row(&format!("files with steps of version {version}"), &good));
         took.push(judge_row(&format!("bad files of version {version}"), &bad));
     }
-    let rows = steps::all().into_iter().filter(|near| before_knows(near.version));
-    took.extend(rows.map(|near| judge_row(&near.name, &[near.with])));
     took
+}
+
+/// Prints the single steps, and what they come to together: those of every rule but Decide, and Decide's.
+fn step_rows() {
+    print_head(["before ns", "after ns"]);
+    let (mut decides, mut others) = (Vec::new(), Vec::new());
+    for near in steps::all().iter().filter(|near| before_knows(near.version)) {
+        let rows = if near.name.starts_with("decide") { &mut decides } else { &mut others };
+        rows.extend(step_row(near));
+    }
+    together("single steps with a ratio, of every rule but Decide", &others);
+    together("single steps with a ratio, of Decide", &decides);
 }
 
 /// Prints some rows, and what they come to together.
@@ -215,4 +256,5 @@ fn main() {
     let mut all = part("constraint test", || test_rows(|set| answer(after_drf_possible, set)));
     all.extend(part("files judged", judge_rows));
     together("all rows of the last two parts", &all);
+    step_rows();
 }
