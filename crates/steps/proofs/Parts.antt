@@ -1,5 +1,5 @@
 -- How the parts of a step follow each other, one law for each rule; then the steps and the whole file.
-use mathlib.Core.Path.{_∙_, _≡_, ap, refl, sym}
+use mathlib.Core.Path.{_∙_, _≡_, ap, refl, subst, sym}
 use mathlib.Core.List.{List, [], _++_, _∷_, map, map-append}
 use mathlib.Core.Bool.{Bool, cond, false, true}
 use Prim.Native.Nat.{_<_, _≤_, suc, zero, ℕ}
@@ -13,7 +13,7 @@ use Rattle.basis.specs.Limits.{mostBrought, mostVariables}
 use Rattle.basis.specs.Refusals.{surplus, tooLong}
 use Rattle.basis.specs.Versions.{formOf}
 use Rattle.basis.specs.declared.Form.{Form}
-use Rattle.lists.proofs.Arrays.{exactly-none}
+use Rattle.lists.proofs.Arrays.{exactly-none, take-exactly}
 use Rattle.lists.specs.Arrays.{exactly}
 use Rattle.steps.specs.declared.SourcesRead.{SourcesRead}
 use Rattle.steps.specs.declared.Outline.{Outline}
@@ -98,8 +98,29 @@ module _ (s : List ℕ) where
 
 -- ---- the parts of a step
 
+-- What was read is a value and the cursor after it.
+read-again : (g : Got (List ℕ)) → viewed (reached g) (given [] g) ≡ g
+read-again (got τ j) = refl
+read-again (bad n p) = refl
+
 pub instance-parts : (s : List ℕ) (c₀ c₁ c₂ : Cursor) (n : ℕ) (τ : List ℕ) → viewed c₁ n ≡ after c₀ (count mostVariables s) → viewed c₂ τ ≡ after c₁ (times n byte s) → viewed c₂ τ ≡ after c₀ (instance s)
 instance-parts s c₀ c₁ c₂ n τ e₁ e₂ = and-then c₀ c₁ c₂ n τ s (count mostVariables) (λ n. times n byte) e₁ e₂
+
+-- Where it ends, and how many constants it has at most
+pub instance-ends : (s : List ℕ) (c₀ c₁ c₂ : Cursor) (n : ℕ) → viewed c₁ n ≡ after c₀ (count mostVariables s) → n ≤ mostVariables → c₂ ≡ reached (after c₁ (times n byte s))
+    → (c₂ ≡ reached (after c₀ (instance s))) × (length (given [] (after c₀ (instance s))) ≤ mostVariables)
+instance-ends s c₀ c₁ c₂ n e h q = (q ∙ ap (λ (g : Got (List ℕ)). reached g) whole, subst (λ (g : Got (List ℕ)). length (given [] g) ≤ mostVariables) whole (few c₁))
+  where
+    whole : after c₁ (times n byte s) ≡ after c₀ (instance s)
+    whole = sym (read-again (after c₁ (times n byte s))) ∙ instance-parts s c₀ c₁ (reached (after c₁ (times n byte s))) n (given [] (after c₁ (times n byte s))) e (read-again (after c₁ (times n byte s)))
+
+    by : (i : ℕ) (g : Got (List ℕ)) → times n byte s i ≡ g → length (given [] g) ≤ mostVariables
+    by i (got τ k) z = omega (arith, times-length byte s n i τ k z, h)
+    by i (bad m p) z = omega arith
+
+    few : (c : Cursor) → length (given [] (after c (times n byte s))) ≤ mostVariables
+    few (C.At i) = by i (times n byte s i) refl
+    few (C.Refused m p) = omega arith
 
 pub source-parts : (s : List ℕ) (c₀ c₁ c₂ c₃ c₄ : Cursor) (c n g k : ℕ) (τ : List ℕ)
     → viewed c₁ c ≡ after c₀ (byte s) → viewed c₂ n ≡ after c₁ (byte s) → viewed c₃ g ≡ after c₂ (within 0 1 s) → viewed c₄ (take k τ) ≡ after c₃ (instance s) → k ≤ mostVariables → Filled mostVariables 0 τ k
@@ -316,6 +337,50 @@ module _ {A B : Type 0} where
       by (got x j) = refl
       by (bad n p) = refl
   reached-through s (C.Refused n p) f y = refl
+
+-- ---- a Decide whose outline was read before
+
+-- The outline with the instance that stands there
+abbrev pub outline-there : (s : List ℕ) (past end : Cursor) (clause literal sign : ℕ) → OutlineRead
+outline-there s past end c l g = record { outline = outlineOf (stepRecord 2 c l 0 g 0 (given [] (after past (instance s)))); at = end }
+
+pub decided-there : (s : List ℕ) (c₀ c₁ c₂ c₃ end : Cursor) (c l g : ℕ) → viewed c₁ c ≡ after c₀ (byte s) → viewed c₂ l ≡ after c₁ (byte s) → viewed c₃ g ≡ after c₂ (within 0 1 s)
+    → (end ≡ reached (after c₃ (instance s))) × (length (given [] (after c₃ (instance s))) ≤ mostVariables) → Decided s c₀ (outline-there s c₃ end c l g)
+decided-there s c₀ c₁ c₂ c₃ end c l g e₁ e₂ e₃ (ends, few) =
+    let τ = given [] (after c₃ (instance s)) in
+    let same : take (length τ) (exactly mostVariables 0 τ) ≡ τ = take-exactly 0 mostVariables τ few in
+    record {
+      clause = c;
+      literal = l;
+      sign = g;
+      past-clause = c₁;
+      past-literal = c₂;
+      past-sign = c₃;
+      clause-read = e₁;
+      literal-read = e₂;
+      sign-read = e₃;
+      instanced = record {
+        reads = (λ v. viewed (ends v) (same v)) ∙ read-again (after c₃ (instance s));
+        is = ap (λ (ρ : List ℕ). outlineOf (stepRecord 2 c l 0 g 0 ρ)) (sym same);
+      };
+    }
+
+-- The record with the outline's arguments and these atoms is that of the Decide.
+pub decision-told : (s : List ℕ) (f : Form) (i : ℕ) (o : Outline) → o ≡ outlineOf (stepThere (step f s i)) → {w : Step} → w ≡ stepThere (step f s i) → w .rule ≡ 2 → w .other ≡ 0 → w .amount ≡ 0
+    → record { rule = 2; clause = o .clause; literal = o .literal; other = 0; sign = o .sign; amount = 0; count = o .count; brought = w .brought; instance = o .instance; atoms = w .atoms } ≡ stepThere (step f s i)
+decision-told s f i o read is r m n =
+    λ v. record {
+      rule = (sym r ∙ ap (λ (x : Step). x .rule) is) v;
+      clause = read v .clause;
+      literal = read v .literal;
+      other = (sym m ∙ ap (λ (x : Step). x .other) is) v;
+      sign = read v .sign;
+      amount = (sym n ∙ ap (λ (x : Step). x .amount) is) v;
+      count = read v .count;
+      brought = is v .brought;
+      instance = read v .instance;
+      atoms = is v .atoms;
+    }
 
 pub step-ends : (s : List ℕ) (f : Form) (c₁ c₂ : Cursor) (o : Outline) → Packs s (step f) c₁ c₂ o → c₂ ≡ reached (after c₁ (step f s))
 step-ends s f c₁ c₂ o e = reached-of c₂ o e ∙ reached-through s c₁ (step f) (λ y. outlineOf (packedStep y))

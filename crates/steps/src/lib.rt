@@ -6,7 +6,7 @@ ghost use lib.ListN.{length, take};
 ghost use Rattle.basis.specs.Limits.{mostBrought, mostVariables};
 ghost use Rattle.runfile.specs.Readers.{_then_, give, times};
 ghost use Rattle.runfile.specs.File.{byte, instance, ruled, source, sources, step, end};
-ghost use Rattle.fields.specs.Views.{Filled, Fills, after, reached, viewed};
+ghost use Rattle.fields.specs.Views.{Filled, Fills, after, given, reached, viewed};
 ghost use Rattle.steps.specs.Records.{Decided, FillsSources, Instanced, Packs, PacksSource, ReadsSources, fileAnswer, outlineAnswer, outlineOf, stepRecord, stepThere};
 use asking::Source;
 use asking::Step;
@@ -98,6 +98,31 @@ fn instance_at(s: &[u8], at: Cursor) -> InstanceRead
     let n = count_at(s, at, MOST_VARIABLES);
     let past_n = n.at;
     constants_at(s, past_n, n.value)
+}
+
+// Where n constants end
+fn constants_end(s: &[u8], at: Cursor, n: u8) -> Cursor
+    ensures { λ r. ⌜ r ≡ reached (after at (times n byte (now (s .entry)))) ⌝ }
+{
+    let count = n as usize;
+    let mut past = at;
+    let mut j: usize = 0;
+    while j < count {
+        let read = byte_at(s, past);
+        let next = read.at;
+        past = next;
+        j += 1;
+    }
+    past
+}
+
+// Where an instance ends
+fn instance_end(s: &[u8], at: Cursor) -> Cursor
+    ensures { λ r. ⌜ (r ≡ reached (after at (instance (now (s .entry))))) × (length (given [] (after at (instance (now (s .entry))))) ≤ mostVariables) ⌝ }
+{
+    let n = count_at(s, at, MOST_VARIABLES);
+    let past = n.at;
+    constants_end(s, past, n.value)
 }
 
 // ---- the atoms that a Decide brings
@@ -357,28 +382,32 @@ pub fn outline_at(s: &[u8], place: usize, form: Form) -> OutlineRead
     read
 }
 
-// The whole step at a place at which a Decide stands
-pub fn decision_at(s: &[u8], place: usize, form: Form) -> Step
-    requires { ⌜ stepThere (step form (now s) place) .rule ≡ 2 ⌝ }
+// The whole step at a place at which a Decide stands, of which the outline was read
+pub fn decision_at(s: &[u8], place: usize, form: Form, told: Outline) -> Step
+    requires { ⌜ (told ≡ outlineOf (stepThere (step form (now s) place))) × (told .rule ≡ 2) ⌝ }
     ensures { λ r. ⌜ r ≡ stepThere (step form (now (s .entry)) place) ⌝ }
 {
     let start = Cursor::At { place: place };
     let rule = rule_at(s, start);
-    let past = rule.at;
-    let read = decided_at(s, past);
-    let end = read.at;
+    let past_rule = rule.at;
+    let c = byte_at(s, past_rule);
+    let past_c = c.at;
+    let l = byte_at(s, past_c);
+    let past_l = l.at;
+    let sign = within_at(s, past_l, 0, 1);
+    let past_sign = sign.at;
+    let end = instance_end(s, past_sign);
     let zs = sources_at(s, end, form);
-    let outline = read.outline;
-    let instance = outline.instance;
+    let instance = told.instance;
     let atoms = zs.atoms;
     Step {
         rule: 2,
-        clause: outline.clause,
-        literal: outline.literal,
+        clause: told.clause,
+        literal: told.literal,
         other: 0,
-        sign: outline.sign,
+        sign: told.sign,
         amount: 0,
-        count: outline.count,
+        count: told.count,
         brought: zs.count,
         instance: instance,
         atoms: atoms,

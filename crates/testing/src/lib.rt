@@ -168,16 +168,15 @@ pub fn all_undefined(tested: Tested) -> bool
     requires { ⌜ InRoom tested ⌝ }
     ensures { λ r. ⌜ r ≡ atomsUndefined (knownAtoms tested) (stepAtoms tested) ⌝ }
 {
-    let atoms = tested.atoms;
     let n = tested.count as usize;
     let known = tested.known as usize;
     let mut j = known;
     while j < n {
-        let a = atoms[j];
+        let a = tested.atoms[j];
         let d = denial(a);
         let mut k = 0;
         while k < j {
-            let b = atoms[k];
+            let b = tested.atoms[k];
             if same_atom(a, b) {
                 return false;
             }

@@ -101,7 +101,7 @@ pub fn run_steps(
         let a = match rule {
             1 => run.propagate(looked, told.clause, told.literal, instance, told.count),
             2 => {
-                let x = decision_at(file, cursor, form);
+                let x = decision_at(file, cursor, form, told);
                 let brought = count_looked(version, x);
                 let mut right = true;
                 let mut named = [none; MOST_BROUGHT];

@@ -1,7 +1,7 @@
 -- `trying::run_steps` meets its contract. The invariant of the loop over the steps: the run so far; of the loop over a step's atoms: what was found
 -- of them; the measures: the steps still to be tried, and the atoms still to be looked at.
 use borrow.Author.Needs.{needs, scaled-fits}
-use mathlib.Core.Path.{_≡_, ap, refl, sym, _∙_}
+use mathlib.Core.Path.{_≡_, ap, refl, _∙_}
 use mathlib.Core.Logic.{⊎-elim}
 use Prim.Native.Nat.{_+_, _-_, _<_, _≤_}
 use native.Mathlib.Omega.{arith}
@@ -159,7 +159,7 @@ propagate-requires : tie.Need-propagate-requires Inv-loop μ-loop Inv-steps μ-s
 propagate-requires c κs = handed (c .before .before .before .before .before .before .before .before .before .before .before .steps .inv .2) (step-of (c .before)) (read-so (c .before)) (c .before .before .before .before .before .before .last-slot .ensures) (c .before .before .before .before .number-looked .ensures) (c .before .before .before .slot-of .ensures .0) (c .before .looked-at .ensures) (propagates (step-of (c .before)) (read-so (c .before)) (c .match .keys1))
 
 decision-at-requires : tie.Need-decision-at-requires Inv-loop μ-loop Inv-steps μ-steps
-decision-at-requires c κs = sym (ap (λ (o : Outline). o .rule) (read-so (c .before))) ∙ c .match .keys2
+decision-at-requires c κs = (read-so (c .before), c .match .keys2)
 
 loop-holds : tie.Need-loop-holds Inv-loop μ-loop Inv-steps μ-steps
 loop-holds c = (omega arith, λ s R is. named-first s (c .before .decision-at .result) (c .before .before .before .before .before .before .before .before .before .before .before .before .before .before .before .before .no-atom .ensures))
