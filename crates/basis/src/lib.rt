@@ -1,5 +1,7 @@
 // The limits and refusal numbers that code needs, each under the name that it has in specs/Limits.antt and specs/Refusals.antt; the versions of the
 // run file and what depends on them; and the records that every crate shares.
+#![tactic(auto)]
+
 ghost use Rattle.std.specs.Prelude.{◌≡◌};
 ghost use Rattle.basis.specs.Versions.{form_of};
 
@@ -78,20 +80,20 @@ pub const BUFFER_SHORT: u8 = 21;
 pub const TOO_LONG: u8 = 22;
 
 // The version of a run file, or of a state that is made without one
-#[derive(Drop)]
+#[derive(Clone, Copy)]
 pub enum Version {
     One,
     Two,
 }
 
 // What depends on the version: whether decisions bring atoms.
-#[derive(Drop)]
+#[derive(Clone, Copy)]
 pub struct Form {
     pub brings: bool,
 }
 
 // The atom record: a background atom p - q at most c, over places (a variable or a constant by its number; 0 is the number zero).
-#[derive(Drop)]
+#[derive(Clone, Copy)]
 pub struct Atom {
     pub p: u8,
     pub q: u8,
@@ -99,7 +101,7 @@ pub struct Atom {
 }
 
 // The literal record: a sign, a predicate and its arguments, variables or constants by their numbers; 0 past the predicate's arity.
-#[derive(Drop)]
+#[derive(Clone, Copy)]
 pub struct Literal {
     pub positive: bool,
     pub predicate: u8,
@@ -109,7 +111,7 @@ pub struct Literal {
 }
 
 // The witness record: the numbers behind a yes, one for each constant in order, 0 past the constants; or none, and then all are 0.
-#[derive(Drop)]
+#[derive(Clone, Copy)]
 pub struct Witness {
     pub given: bool,
     pub numbers: [i32; MOST_CONSTANTS],

@@ -156,12 +156,12 @@ module _ (n : ℕ) (az : List Atom) where
   in_order : (i : ℕ) → 1 ≤ i → i < n → Memᴰ (link (negsuc 0) i) bounds
   in_order i l h = Memᴰ.append_left az (links_in (negsuc 0) 1 (n - 1) i l (omega arith))
 
-  in-atoms : (a : Atom) → Memᴰ a az → Memᴰ a bounds
-  in-atoms a k = Memᴰ.append_right (ordering n) k
+  in_atoms : (a : Atom) → Memᴰ a az → Memᴰ a bounds
+  in_atoms a k = Memᴰ.append_right (ordering n) k
 
   near_kept : (v : ℕ → ℤ) → (Near m far v × AllKept bounds v) ↔ NearKept m far n az v
   near_kept v = (
-    λ h. record { near = h.0; rising = λ i l k. each_kept bounds v h.1 _ (in_order i l k); every = λ a k. each_kept bounds v h.1 a (in-atoms a k) },
+    λ h. record { near = h.0; rising = λ i l k. each_kept bounds v h.1 _ (in_order i l k); every = λ a k. each_kept bounds v h.1 a (in_atoms a k) },
     λ N. (N.near, all_kept bounds v (λ a k. keeps N a (Memᴰ.append_cases (ordering n) k))),
   )
     where
@@ -176,7 +176,7 @@ module _ (n : ℕ) (az : List Atom) where
     record {
       near = λ i j hi hj. near.1.near i j;
       rising = λ i l h. keeps _ (in_order i l h) (by_order_lem (P.value i) (P.value (suc i)) (P.rising i l h));
-      every = λ a k. keeps a (in-atoms a k) (by_sum (P.value a.p) (P.value a.q) a.c (P.every a k));
+      every = λ a k. keeps a (in_atoms a k) (by_sum (P.value a.p) (P.value a.q) a.c (P.every a k));
     },
   )
     where

@@ -1,1 +1,2 @@
 // Bounds between places: definitions and laws, no code.
+#![tactic(auto)]

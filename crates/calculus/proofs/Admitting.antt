@@ -22,7 +22,7 @@ use Rattle.lists.specs.Lists.{all_of, any_of, up_from}
 use Rattle.calculus.specs.Admission.{Admitted, Refused, admission_refusal, clauses_refusal, counts_fit, fresh}
 use Rattle.calculus.specs.Admitting.{AdmissionJudged, AdmissionRefusedRightly, AdmittedExactly, ClauseAcceptedExactly, ClauseJudged, ClauseRefusedRightly, CountsFit, EachOccurs, FieldsInRange, by_above_limit, admitted, bad_clause, counts, fine, by_lacks_bound, by_occurs_nowhere, by_out_of_range}
 use Rattle.calculus.specs.Checks.{◌or◌, between, first_refusal}
-use Rattle.calculus.specs.Class.{Bounded, DifferencesBounded, InClass, Limited, Occurs, ProperLiteral, arity_of, bounded, clause_refusal, differences_bounded, in-atom, in-literal, proper_atom, proper_literal, within_limits}
+use Rattle.calculus.specs.Class.{Bounded, DifferencesBounded, InClass, Limited, Occurs, ProperLiteral, arity_of, bounded, clause_refusal, differences_bounded, in_atom, in_literal, proper_atom, proper_literal, within_limits}
 use Rattle.calculus.specs.Clauses.{Clause, arguments, no_clause}
 use Rattle.calculus.specs.Merging.{occurs_in}
 use Rattle.calculus.specs.States.{clause_at}
@@ -30,8 +30,8 @@ use Rattle.calculus.proofs.Asks.{between_says, limited_says}
 
 -- ---- the clause class
 
-in-range-says : (c : ℤ) → T (le_z (neg_ℤ (pos most_c)) c && le_z c (pos most_c)) ↔ InRange c
-in-range-says c = (
+in_range_says : (c : ℤ) → T (le_z (neg_ℤ (pos most_c)) c && le_z c (pos most_c)) ↔ InRange c
+in_range_says c = (
   λ t. record { low = le_z_yes (and_l (le_z (neg_ℤ (pos most_c)) c) (le_z c (pos most_c)) t); high = le_z_yes (and_r (le_z (neg_ℤ (pos most_c)) c) (le_z c (pos most_c)) t) },
   λ h. and_i (le_z (neg_ℤ (pos most_c)) c) (le_z c (pos most_c)) h.low.le h.high.le,
 )
@@ -39,7 +39,7 @@ in-range-says c = (
 proper_says : (v : ℕ) (a : Atom) → T (proper_atom v a) ↔ Proper InRange v a
 proper_says v a =
     says_also
-    (and_says (leb a.p v) _ (leb_says a.p v) (and_says (leb a.q v) _ (leb_says a.q v) (and_says (leb 1 (a.p + a.q)) _ (leb_says 1 (a.p + a.q)) (in-range-says a.c))))
+    (and_says (leb a.p v) _ (leb_says a.p v) (and_says (leb a.q v) _ (leb_says a.q v) (and_says (leb 1 (a.p + a.q)) _ (leb_says 1 (a.p + a.q)) (in_range_says a.c))))
     (λ h. record { p_place = h.0; q_place = h.1.0; some_place = h.1.1.0; c_range = h.1.1.1 })
     (λ h. (h.p_place, (h.q_place, (h.some_place, h.c_range))))
 
@@ -72,12 +72,12 @@ occurs_says C x =
     argument l = says_also (any_says (eqb x) (λ y. x ≡ y) (eqb_says x) (arguments l)) (λ (y, m, e). mathlib.Core.List.Memᴰ.cast e m) (λ m. (x, m, refl))
 
     out : ((a : Atom) × Memᴰ a C.atoms × ((x ≡ a.p) ⊎ (x ≡ a.q))) ⊎ ((l : Literal) × Memᴰ l C.literals × Memᴰ x (arguments l)) → Occurs C x
-    out (inl (a, m, h)) = in-atom a m h
-    out (inr (l, m, h)) = in-literal l m h
+    out (inl (a, m, h)) = in_atom a m h
+    out (inr (l, m, h)) = in_literal l m h
 
     back : Occurs C x → ((a : Atom) × Memᴰ a C.atoms × ((x ≡ a.p) ⊎ (x ≡ a.q))) ⊎ ((l : Literal) × Memᴰ l C.literals × Memᴰ x (arguments l))
-    back (in-atom a m h) = inl (a, m, h)
-    back (in-literal l m h) = inr (l, m, h)
+    back (in_atom a m h) = inl (a, m, h)
+    back (in_literal l m h) = inr (l, m, h)
 
 each_occurs_says : (C : Clause) → T (all_of (occurs_in C.atoms C.literals) (up_from 1 C.variables)) ↔ EachOccurs C
 each_occurs_says C =
@@ -217,7 +217,7 @@ admission_refused_rightly constants arities cs = go (said (counts_fit constants 
       few_predicates = f.few_predicates;
       small_arities = f.small_arities;
       few_clauses = f.few_clauses;
-      in-class = λ C m. ((clause_accepted_exactly arities C).0 (h C m)).0;
+      in_class = λ C m. ((clause_accepted_exactly arities C).0 (h C m)).0;
       limited = λ C m. ((clause_accepted_exactly arities C).0 (h C m)).1;
       new = refl;
     })
@@ -241,5 +241,5 @@ admitted_exactly version constants arities cs = (λ e. out e (admission_refused_
     back a (counts z f) = absurd (f (record { few_constants = a.few_constants; few_predicates = a.few_predicates; small_arities = a.small_arities; few_clauses = a.few_clauses }))
     back a (bad_clause k z f m b h) =
         let i : Memᴰ (clause_at cs k) cs = get_d_mem cs (k - 1) no_clause (omega arith) in
-        absurd (b ((clause_accepted_exactly arities (clause_at cs k)).1 (a.in-class (clause_at cs k) i, a.limited (clause_at cs k) i)))
+        absurd (b ((clause_accepted_exactly arities (clause_at cs k)).1 (a.in_class (clause_at cs k) i, a.limited (clause_at cs k) i)))
     back a (admitted z u) = ap (λ (q : Refused). q.number) z

@@ -15,7 +15,7 @@ use Rattle.basis.specs.Numbers.{whole}
 use Rattle.basis.specs.declared.Atom.{Atom}
 use Rattle.lists.proofs.Counting.{up_from_mem, up_from_out}
 use Rattle.lists.proofs.Members.{all_of_out, any_of_out}
-use Rattle.lists.proofs.Tests.{and_l, and_r, holds}
+use Rattle.lists.proofs.Tests.{and_l, and_r}
 use Rattle.lists.specs.Lists.{all_of, any_of, up_from}
 use Rattle.calculus.specs.Clauses.{same_atom}
 use Rattle.calculus.proofs.Computed.{answer}

@@ -275,15 +275,15 @@ occurs_of : {C : Clause} {x : ℕ} → T (occurs_in C.atoms C.literals x) → Oc
 occurs_of {C} {x} t = go (said (any_of (λ a. eqb x a.p || eqb x a.q) C.atoms))
   where
     atom : (a : Atom) → Memᴰ a C.atoms → Said (eqb x a.p) → T (eqb x a.p || eqb x a.q) → Occurs C x
-    atom a m (holds e) k = Occurs.in-atom a m (inl (eqb→eq x a.p e))
-    atom a m (fails e) k = Occurs.in-atom a m (inr (eqb→eq x a.q (subst (λ b. T (b || eqb x a.q)) (F→eq (eqb x a.p) e) k)))
+    atom a m (holds e) k = Occurs.in_atom a m (inl (eqb→eq x a.p e))
+    atom a m (fails e) k = Occurs.in_atom a m (inr (eqb→eq x a.q (subst (λ b. T (b || eqb x a.q)) (F→eq (eqb x a.p) e) k)))
 
     go : Said (any_of (λ a. eqb x a.p || eqb x a.q) C.atoms) → Occurs C x
     go (holds k) = let (a, m, u) = any_of_out (λ a. eqb x a.p || eqb x a.q) C.atoms k in atom a m (said (eqb x a.p)) u
     go (fails k) =
         let (l, m, u) = any_of_out (λ l. any_of (eqb x) (arguments l)) C.literals (subst (λ b. T (b || any_of (λ l. any_of (eqb x) (arguments l)) C.literals)) (F→eq (any_of (λ a. eqb x a.p || eqb x a.q) C.atoms) k) t) in
         let (y, n, w) = any_of_out (eqb x) (arguments l) u in
-        Occurs.in-literal l m (Memᴰ.cast (eqb→eq x y w) n)
+        Occurs.in_literal l m (Memᴰ.cast (eqb→eq x y w) n)
 
 merge_class : {arities : List ℕ} (es : List (ℕ × ℕ)) (v : ℕ) (az : List Atom) (ls : List Literal) (τ : List ℕ) → Paired v es → Shaped arities v az ls → InClass arities (merge es v az ls τ).clause
 unfolding merge close_up

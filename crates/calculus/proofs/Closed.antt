@@ -12,7 +12,7 @@ use Rattle.lists.proofs.Counting.{index_of_rises, up_from_mem, up_from_out}
 use Rattle.lists.proofs.Members.{keep_if_in, keep_if_out, keep_if_sat, map_same}
 use Rattle.lists.proofs.Tests.{Said, fails, holds, said}
 use Rattle.lists.specs.Lists.{index_of, keep_if, up_from}
-use Rattle.calculus.specs.Class.{Occurs, in-atom, in-literal}
+use Rattle.calculus.specs.Class.{Occurs, in_atom, in_literal}
 use Rattle.calculus.specs.Clauses.{Clause, Instanced, rename_atom, rename_literal, under}
 use Rattle.calculus.specs.Merges.{ClosedUp, ClosedUpOnce, NumbersCloseUp, Remains}
 use Rattle.calculus.specs.Merging.{close_up, occurs_in}
@@ -99,14 +99,14 @@ closed_up_once K A B inside a b = λ i. record { clause = record { variables = c
     count = omega (arith, no_more a b, no_more b a)
 
     atom : (c : Atom) → Memᴰ c K.clause.atoms → rename_atom a.number c ≡ rename_atom b.number c
-    atom c m = let e = place c.p (in-atom c m (inl refl)) in let f = place c.q (in-atom c m (inr refl)) in λ i. record { p = e i; q = f i; c = c.c }
+    atom c m = let e = place c.p (in_atom c m (inl refl)) in let f = place c.q (in_atom c m (inr refl)) in λ i. record { p = e i; q = f i; c = c.c }
 
     atoms : A.clause.atoms ≡ B.clause.atoms
     atoms = a.same_atoms ∙ map_same (rename_atom a.number) (rename_atom b.number) K.clause.atoms atom ∙ sym b.same_atoms
 
     literals : A.clause.literals ≡ B.clause.literals
     literals = a.same_literals
-        ∙ map_same (rename_literal a.number) (rename_literal b.number) K.clause.literals (λ l m. rename_literal_same a.number b.number l (λ x n. place x (in-literal l m n)))
+        ∙ map_same (rename_literal a.number) (rename_literal b.number) K.clause.literals (λ l m. rename_literal_same a.number b.number l (λ x n. place x (in_literal l m n)))
         ∙ sym b.same_literals
 
     constant : (k : ℕ) → k < length A.instance → under A.instance (suc k) ≡ under B.instance (suc k)

@@ -17,7 +17,7 @@ pub admitted_starts : AdmittedStarts
 admitted_starts s a = record {
   admitted = subst Admitted a.new a;
   few_learned = omega (arith, ap (λ (l : List Clause). length l) (none_learned s a));
-  in-class = λ C m. absurd (Memᴰ.not-nil (subst (Memᴰ C) (none_learned s a) m));
+  in_class = λ C m. absurd (Memᴰ.not-nil (subst (Memᴰ C) (none_learned s a) m));
   limited = λ C m. absurd (Memᴰ.not-nil (subst (Memᴰ C) (none_learned s a) m));
   empty = a.new ∙ ap restarted (sym a.new);
 }

@@ -119,8 +119,8 @@ start_held : (s : State) → Start s → (C : Clause) → Memᴰ C (clauses s) �
 start_held s S C m = go (Memᴰ.append_cases s.input m)
   where
     go : Memᴰ C s.input ⊎ Memᴰ C s.learned → InClass s.arities C × Limited C
-    go (inl k) = (S.admitted.in-class C k, S.admitted.limited C k)
-    go (inr k) = (S.in-class C k, S.limited C k)
+    go (inl k) = (S.admitted.in_class C k, S.admitted.limited C k)
+    go (inr k) = (S.in_class C k, S.limited C k)
 
 pub inv_start : (nums : Numbers) (s : State) → Start s → Inv nums (clauses s) s
 inv_start nums s S = record {
@@ -270,12 +270,12 @@ module _ (nums : Numbers) where
       few_predicates = subst (λ (l : List ℕ). length l ≤ most_predicates) (sym same.1) h.start.admitted.few_predicates;
       small_arities = subst (λ l. (n : ℕ) → Memᴰ n l → n ≤ most_arguments) (sym same.1) h.start.admitted.small_arities;
       few_clauses = subst (λ (l : List Clause). length l ≤ most_input) (sym same.0) h.start.admitted.few_clauses;
-      in-class = λ C m. (v.held C (Memᴰ.append_left s.learned m)).class;
+      in_class = λ C m. (v.held C (Memᴰ.append_left s.learned m)).class;
       limited = λ C m. (v.held C (Memᴰ.append_left s.learned m)).limited;
       new = refl;
     };
     few_learned = counts.few_learned;
-    in-class = λ C m. (v.held C (Memᴰ.append_right s.input m)).class;
+    in_class = λ C m. (v.held C (Memᴰ.append_right s.input m)).class;
     limited = λ C m. (v.held C (Memᴰ.append_right s.input m)).limited;
     empty = refl;
   }

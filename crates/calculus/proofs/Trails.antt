@@ -36,7 +36,7 @@ pub tail_cases : {t u : Trail} {e : Entry} → Tail t (e ∷ u) → (t ≡ e ∷
 tail_cases (here p) = inl p
 tail_cases (there h) = inr h
 
-pub tail_more : {t u : Trail} {e : Entry} → Tail (e ∷ t) u → Tail t u
+pub tail_more : {t : Trail} {e : Entry} {u : Trail} → Tail (e ∷ t) u → Tail t u
 tail_more {t} {e} (here p) = subst (Tail t) p (there (here refl))
 tail_more (there h) = there (tail_more h)
 

@@ -23,7 +23,7 @@ pub record Admitted (s : State) : Type 0 where
   pub few_predicates : length s.arities ≤ most_predicates
   pub small_arities : (n : ℕ) → Memᴰ n s.arities → n ≤ most_arguments
   pub few_clauses : length s.input ≤ most_input
-  pub in-class : (C : Clause) → Memᴰ C s.input → InClass s.arities C
+  pub in_class : (C : Clause) → Memᴰ C s.input → InClass s.arities C
   pub limited : (C : Clause) → Memᴰ C s.input → Limited C
   pub new : s ≡ fresh s.version s.constants s.arities s.input
 

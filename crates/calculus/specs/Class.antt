@@ -27,8 +27,8 @@ pub record ProperLiteral (arities : List ℕ) (variables : ℕ) (l : Literal) : 
 
 -- Variable x stands at a place of an atom or among the arguments of a literal.
 pub data Occurs (C : Clause) (x : ℕ) : Type 0 where
-  in-atom : (a : Atom) → Memᴰ a C.atoms → (x ≡ a.p) ⊎ (x ≡ a.q) → Occurs C x
-  in-literal : (l : Literal) → Memᴰ l C.literals → Memᴰ x (arguments l) → Occurs C x
+  in_atom : (a : Atom) → Memᴰ a C.atoms → (x ≡ a.p) ⊎ (x ≡ a.q) → Occurs C x
+  in_literal : (l : Literal) → Memᴰ l C.literals → Memᴰ x (arguments l) → Occurs C x
 
 -- "an atom bounding it above (x, 0, c) and one bounding it below (0, x, c)"
 pub record Bounded (atoms : List Atom) (x : ℕ) : Type 0 where

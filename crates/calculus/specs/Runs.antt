@@ -48,7 +48,7 @@ restarted s = updated s [] zero none
 pub record Start (s : State) : Type 0 where
   pub admitted : Admitted (fresh s.version s.constants s.arities s.input)
   pub few_learned : length s.learned ≤ most_learned
-  pub in-class : (C : Clause) → Memᴰ C s.learned → InClass s.arities C
+  pub in_class : (C : Clause) → Memᴰ C s.learned → InClass s.arities C
   pub limited : (C : Clause) → Memᴰ C s.learned → Limited C
   pub empty : s ≡ restarted s
 

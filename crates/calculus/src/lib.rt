@@ -1,1 +1,2 @@
 // No code: the calculus as definitions and theorems.
+#![tactic(auto)]

@@ -1,5 +1,7 @@
 // The constraint test. It works on a square of bounds between every two of 17 places: that of the constants' order, into which the atoms
 // are put one by one, closed after each, until one closes a chain below zero or all are in.
+#![tactic(auto)]
+
 ghost use Rattle.std.specs.Prelude.{◌≡◌, ℕ, ◌<◌, ◌≤◌, take, pos, ◌+ℤ◌, ◌-ℤ◌};
 ghost use Rattle.std.specs.Int.Signed.{lt_z};
 ghost use Rattle.basis.specs.Limits.{most_constants, most_tested};
@@ -24,7 +26,7 @@ const PLACES: usize = 17;
 const FAR: i64 = 17000017;
 
 // The answer of the constraint test.
-#[derive(Drop)]
+#[derive(Clone, Copy)]
 pub enum Answer {
     Yes,
     No,
@@ -33,7 +35,7 @@ pub enum Answer {
 
 // What the constraint test finds: its answer, and beside a yes the numbers behind it, one for each constant in order and 0 past them; beside
 // any other answer all are 0, since no enum holds an array.
-#[derive(Drop)]
+#[derive(Clone, Copy)]
 pub struct Finding {
     pub answer: Answer,
     pub numbers: [i32; MOST_CONSTANTS],

@@ -1,16 +1,21 @@
 // Runs the constraint test on a table of cases: standard input has a case to a line, standard output its name and the answer,
 // with a yes the constants' numbers behind it.
 // A line is a name, the constants, the count, and then atoms, each as four numbers: how often, p, q, c. A line that starts with # is passed over.
-ghost use Rattle.std.specs.Prelude.{◌≡◌, length};
+#![tactic(auto)]
+
+ghost use Rattle.std.specs.Prelude.{◌≡◌, ◌≤◌, length};
 ghost use Rattle.basis.specs.Limits.{most_tested};
 
 use basis::{Atom, MOST_CONSTANTS, MOST_TESTED};
 use constraint::{Answer, Finding};
-use libc::STDOUT_FILENO;
+use std::io::Read;
 use text::put_signed;
 
+// The table is read no further.
+const MOST_READ: usize = 65536;
+
 // How far a line is read: what it has told, and the number that is being read.
-#[derive(Drop)]
+#[derive(Clone, Copy)]
 struct Line {
     atoms: [Atom; MOST_TESTED],
     used: usize,
@@ -131,51 +136,53 @@ fn parted(line: Line) -> Line {
     next
 }
 
-// A number with its sign, and a space before it.
-fn print_number(n: i32) {
-    let mut word = [b' '; 12];
-    let end = put_signed(&mut word, 1, n);
-    io::write_all(STDOUT_FILENO, &word[..end]);
+// What can't be written is not told: it is missing where the output is compared.
+fn write(rt: HostRuntime, s: &[u8]) {
+    let _ = rt.write_all(s);
 }
 
-fn print_numbers(constants: u8, numbers: [i32; MOST_CONSTANTS]) {
+// A number with its sign, and a space before it.
+fn print_number(rt: HostRuntime, n: i32) {
+    let mut word = [b' '; 12];
+    let end = put_signed(&mut word, 1, n);
+    write(rt, &word[..end]);
+}
+
+fn print_numbers(rt: HostRuntime, constants: u8, numbers: [i32; MOST_CONSTANTS]) {
     for j in 0..MOST_CONSTANTS {
         if j < constants as usize {
-            print_number(numbers[j]);
+            print_number(rt, numbers[j]);
         }
     }
 }
 
-fn print_finding(constants: u8, found: Finding) {
+fn print_finding(rt: HostRuntime, constants: u8, found: Finding) {
     let answer = found.answer;
     let numbers = found.numbers;
     match answer {
         Answer::Yes => {
-            io::write_all(STDOUT_FILENO, b" yes");
-            print_numbers(constants, numbers);
+            write(rt, b" yes");
+            print_numbers(rt, constants, numbers);
         }
         Answer::No => {
-            io::write_all(STDOUT_FILENO, b" no");
+            write(rt, b" no");
         }
         Answer::Refused { number, place } => {
-            io::write_all(STDOUT_FILENO, b" refused ");
-            io::print_decimal(STDOUT_FILENO, number as u64);
-            io::write_all(STDOUT_FILENO, b" at ");
-            io::print_decimal(STDOUT_FILENO, place as u64);
+            let _ = print!(rt; " refused {number} at {place}");
         }
     }
-    io::write_all(STDOUT_FILENO, b"\n");
+    write(rt, b"\n");
 }
 
 // One byte more of the line.
-fn read_byte(line: Line, byte: u8) -> Line {
+fn read_byte(rt: HostRuntime, line: Line, byte: u8) -> Line {
     if byte == b'\n' {
         if line.comment {
             return start();
         }
         let whole = parted(line);
         let found = constraint::possible(whole.constants, whole.count, atoms_of(whole));
-        print_finding(whole.constants, found);
+        print_finding(rt, whole.constants, found);
         return start();
     }
     if byte == b' ' {
@@ -196,17 +203,32 @@ fn read_byte(line: Line, byte: u8) -> Line {
     }
     if !next.comment {
         let name = [byte; 1];
-        io::write_all(STDOUT_FILENO, &name);
+        write(rt, &name);
     }
     next
 }
 
-fn main() {
-    let mut buffer = io::large_buffer();
-    let n = io::read_full(0, &mut buffer);
+// As much as comes and the buffer has room for; a read that fails ends it.
+fn read_full(reader: &mut impl Read, buffer: &mut [u8]) -> usize
+    ensures { result ≤ length buffer.new }
+{
+    let mut at: usize = 0;
+    while at < buffer.len() {
+        match reader.read(&mut buffer[at..]) {
+            Ok(0) => break,
+            Ok(more) => at += more,
+            Err(_) => break,
+        }
+    }
+    at
+}
+
+fn main(rt: HostRuntime) {
+    let mut buffer = [0u8; MOST_READ];
+    let n = read_full(&mut rt.stdin(), &mut buffer);
     let mut line = start();
     for i in 0..n {
-        let next = read_byte(line, buffer[i]);
+        let next = read_byte(rt, line, buffer[i]);
         line = next;
     }
 }

@@ -1,4 +1,6 @@
 // The constraint test for programs in C or Rust: it takes slices and answers by a number.
+#![tactic(auto)]
+
 ghost use Rattle.std.specs.Prelude.{◌≡◌, ◌≤◌, ◌<◌};
 ghost use Rattle.basis.specs.Limits.{most_constants, most_tested};
 ghost use Rattle.constraint.specs.declared.Answer.TheVariants.{Yes};

@@ -1,1 +1,2 @@
 // Whole numbers: definitions and laws, no code.
+#![tactic(auto)]

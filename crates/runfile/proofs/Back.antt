@@ -1,7 +1,6 @@
 -- What is written is read back: each reading, where the bytes written for a value stand, gives that value.
 use mathlib.Core.Path.{◌∙◌, ◌≡◌, ap, refl, sym}
 use mathlib.Core.List.{List, Memᴰ, [], ◌++◌, ◌∷◌, append_assoc, append-nil}
-use mathlib.Core.Option.{none}
 use mathlib.Core.Bool.{Bool, ◌&&◌, cond, false, true}
 use Prim.Native.Nat.{◌+◌, ◌-◌, ◌<◌, ◌≤◌, suc, zero, ℕ}
 use native.Mathlib.Omega.{arith}
@@ -12,7 +11,6 @@ use lib.Seq.{drop-append_seam, drop-drop, take-append_seam, take-nil}
 use lib.Signed.{le_z}
 use borrow.Author.Tests.{le-leb, le-ltb, lt-ltb}
 use Rattle.basis.specs.Limits.{most_arguments, most_atoms, most_brought, most_c, most_constants, most_input, most_literals, most_predicates, most_variables}
-use Rattle.basis.specs.Numbers.{whole}
 use Rattle.basis.specs.Refusals.{above_limit, ends_inside, out_of_range, unknown_rule, wrong_mark}
 use Rattle.basis.specs.Versions.{form_of, version_number}
 use Rattle.basis.specs.declared.Atom.{Atom}
@@ -277,7 +275,7 @@ back_header F h =
     (back_then _ (back_count most_predicates (length F.arities) a.few_predicates)
     (back_then _ (rw (joined_bytes F.arities) at (back_times (count most_arguments) (λ v. v ∷ []) F.arities (λ n m. back_count most_arguments n (a.small_arities n m))))
     (back_then _ (back_count most_input (length F.input) a.few_clauses)
-    (back_then _ (back_times (clause F.arities) (written_clause F.arities) F.input (λ C m. back_clause F.arities C (a.in-class C m) (a.limited C m)))
+    (back_then _ (back_times (clause F.arities) (written_clause F.arities) F.input (λ C m. back_clause F.arities C (a.in_class C m) (a.limited C m)))
     (back_last (λ t. record { version = F.version; constants = F.constants; arities = F.arities; input = F.input; count = t })
     (back_judged (λ n. leb n most_steps or above_limit ∷ [])
     (back_number (bytes_of 2 (length F.steps)) (length F.steps) (omega arith) (back_2 (length F.steps) (omega (arith, h.few_steps))))

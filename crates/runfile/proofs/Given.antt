@@ -20,7 +20,7 @@ use Rattle.lists.proofs.Members.{all_of_in}
 use Rattle.lists.proofs.Tests.{T→eq, and_i, and_l, and_r}
 use Rattle.lists.specs.Lists.{all_of, same_list}
 use Rattle.runfile.specs.Claims.{BroughtHeld, EveryFile, Outcome, Refusal, Sayable, StepHeld}
-use Rattle.runfile.specs.File.{count, File, Header, argument, atom, byte, class_checks, clause, clause_fields, constant, end, file, header, instance, letters, literal, little_endian, mark, most_file, most_steps, number, ruled, second, signed_of, source, sources, step, version, version_of, whole_file, within}
+use Rattle.runfile.specs.File.{count, File, Header, argument, atom, byte, class_checks, clause, clause_fields, constant, end, file, header, instance, letters, literal, little_endian, most_file, most_steps, number, ruled, second, signed_of, source, sources, step, version, version_of, whole_file, within}
 use Rattle.runfile.specs.Readers.{Got, Reader, ◌judged◌, ◌then◌, bad, field, give, got, onward, times}
 use Rattle.calculus.proofs.Admitting.{clause_accepted_exactly}
 use Rattle.calculus.specs.Admission.{Admitted, fresh}
@@ -100,7 +100,7 @@ module _ {A : Type 0} where
       on : (s : List ℕ) (i : ℕ) → i ≤ length s → (x : A) (j : ℕ) → P x × (j ≤ length s) → (n : ℕ) → first_refusal (checks x) ≡ n
           → Gives (λ x. P x × Passes (checks x)) s (cond (eqb n accepted) (got x j) (bad n i))
       on s i h x j q zero e = ((q.0, clean (checks x) (k x) e), q.1)
-      on s i h x j q (suc n) e = rw (eqb-suc-zero n) (record { in_table = inl (omega arith, omega (arith, of_table (checks x) (k x), e)); in-file = h })
+      on s i h x j q (suc n) e = rw (eqb-suc-zero n) (record { in_table = inl (omega arith, omega (arith, of_table (checks x) (k x), e)); in_file = h })
 
       by : (s : List ℕ) (i : ℕ) → i ≤ length s → (y : Got A) → Gives P s y
           → Gives (λ x. P x × Passes (checks x)) s (onward y (λ x j. cond (eqb (first_refusal (checks x)) accepted) (got x j) (bad (first_refusal (checks x)) i)))
@@ -132,7 +132,7 @@ field_reads n = record { gives = λ s i h. by s i h (leb (i + n) (length s)) ref
     by : (s : List ℕ) (i : ℕ) → i ≤ length s → (b : Bool) → leb (i + n) (length s) ≡ b
         → Gives (λ l. length l ≡ n) s (cond b (got (take n (drop i s)) (i + n)) (bad ends_inside i))
     by s i h true e = let k = leb-true (i + n) (length s) e in (simp (length-take, length-drop) (omega arith), k)
-    by s i h false e = record { in_table = inl (omega arith, omega arith); in-file = h }
+    by s i h false e = record { in_table = inl (omega arith, omega arith); in_file = h }
 
 -- any number of bytes
 pub number_reads : (n : ℕ) → Reads (λ v. Unit {0}) (number n)
@@ -319,7 +319,7 @@ header_reads =
         few_predicates = omega (arith, ha.0);
         small_arities = ha.1;
         few_clauses = omega (arith, hc.0);
-        in-class = λ C h. (hc.1 C h).0;
+        in_class = λ C h. (hc.1 C h).0;
         limited = λ C h. (hc.1 C h).1;
         new = refl;
       },
@@ -332,7 +332,7 @@ end_at s F i h k = by (leb (length s) i) refl
   where
     by : (b : Bool) → leb (length s) i ≡ b → Outcome s (onward (cond b (got (tt {0}) i) (bad surplus i)) (λ _ j. got F j))
     by true e = let z = leb-true (length s) i e in (h, omega arith)
-    by false e = record { in_table = inl (omega arith, omega arith); in-file = k }
+    by false e = record { in_table = inl (omega arith, omega arith); in_file = k }
 
 abbrev saying : Header → List Step → File
 saying h xs = record { version = h.version; constants = h.constants; arities = h.arities; input = h.input; steps = xs }
@@ -358,4 +358,4 @@ every_file s = by (leb (length s) most_file) refl
   where
     by : (b : Bool) → leb (length s) most_file ≡ b → Outcome s (cond b (whole_file s zero) (bad too_long most_file))
     by true e = whole_given s
-    by false e = let z = leb-false (length s) most_file e in record { in_table = inr refl; in-file = omega arith }
+    by false e = let z = leb-false (length s) most_file e in record { in_table = inr refl; in_file = omega arith }

@@ -45,7 +45,7 @@ pub record Sayable (F : File) : Type 0 where
 -- A refusal of a file: a number of the table from 1 to 8 or 22, and a place in the file or at its end
 pub record Refusal (s : List ℕ) (number place : ℕ) : Type 0 where
   pub in_table : ((ends_inside ≤ number) × (number ≤ surplus)) ⊎ (number ≡ too_long)
-  pub in-file : place ≤ length s
+  pub in_file : place ≤ length s
 
 -- A file is read to its last byte and says an admitted state with its steps, or it is refused.
 abbrev pub Outcome : List ℕ → Got File → Type 0

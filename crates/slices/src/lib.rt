@@ -1,4 +1,6 @@
 // Lent slices read at any place: what stands there, or 0 past the end.
+#![tactic(auto)]
+
 ghost use Rattle.std.specs.Prelude.{◌≡◌, get_or, pos};
 
 pub fn byte_at(s: &[u8], k: usize) -> u8

@@ -40,10 +40,10 @@ module _ {n : ℤ} (h : SFits w32 n) where
   wide = to_z w64 (of_z w64 (to_z w32 (of_z w32 n)))
 
   pub widened : wide ≡ n
-  widened = ap (λ (z : ℤ). to_z w64 (of_z w64 z)) (to_z-of_z h) ∙ to_z-of_z (sfits_widen tt h)
+  widened = ap (λ (z : ℤ). to_z w64 (of_z w64 z)) (to_z-of_z h) ∙ to_z-of_z {w = w64} (sfits_widen (tt {0}) h)
 
   pub wide_fits : SFits w64 (to_z w32 (of_z w32 n))
-  wide_fits = rw (to_z-of_z h) (sfits_widen tt h)
+  wide_fits = rw (to_z-of_z h) (sfits_widen (tt {0}) h)
 
   pub size_above : lt_z wide (pos 0) ≡ false → T (non_neg wide) × Fits w64 (nat_abs wide)
   size_above e = rw widened (go n (lt_z_false (subst (λ (z : ℤ). lt_z z (pos 0) ≡ false) widened e)), Fits-nat_abs tt h)

@@ -1,4 +1,6 @@
 // Writing text into a lent buffer: each function writes from a place on and answers the place after what it wrote. The caller sees to the room.
+#![tactic(auto)]
+
 ghost use Rattle.std.specs.Prelude.{◌≡◌, [], ◌∷◌, ◌+◌, ◌≤◌, ◌<◌, length, nat_abs};
 ghost use Rattle.text.specs.Text.{Wrote, decimal, signed_text};
 ghost use Rattle.text.specs.Text as text;
