@@ -42,9 +42,9 @@ module _ (predicates : ℕ) (arities : List ℕ) (p : ℕ) where
 abbrev pub proper_argument : ℕ → ℕ → ℕ → ℕ → Bool
 proper_argument k n v x = cond (ltb k n) (between 1 v x) (eqb 0 x)
 
-and-true : (a : Bool) → (a && true) ≡ a
-and-true true = refl
-and-true false = refl
+and_true : (a : Bool) → (a && true) ≡ a
+and_true true = refl
+and_true false = refl
 
 and_assoc : (a b c : Bool) → ((a && b) && c) ≡ (a && (b && c))
 and_assoc true b c = refl
@@ -52,11 +52,11 @@ and_assoc false b c = refl
 
 pub arguments_proper : (n v x y z : ℕ) →
     (all_of (between 1 v) (take n (x ∷ y ∷ z ∷ [])) && all_of (eqb zero) (drop n (x ∷ y ∷ z ∷ []))) ≡ (proper_argument 0 n v x && (proper_argument 1 n v y && proper_argument 2 n v z))
-arguments_proper zero v x y z = simp and-true
-arguments_proper (suc zero) v x y z = simp (and-true)
-arguments_proper (suc (suc zero)) v x y z = simp (and-true, and_assoc)
+arguments_proper zero v x y z = simp and_true
+arguments_proper (suc zero) v x y z = simp (and_true)
+arguments_proper (suc (suc zero)) v x y z = simp (and_true, and_assoc)
 arguments_proper (suc (suc (suc n))) v x y z =
-    rw (take-nil n, drop-nil n, lt-ltb 0 (suc (suc (suc n))) (omega arith), lt-ltb 1 (suc (suc (suc n))) (omega arith), lt-ltb 2 (suc (suc (suc n))) (omega arith)) (simp (and-true, and_assoc))
+    rw (take-nil n, drop-nil n, lt-ltb 0 (suc (suc (suc n))) (omega arith), lt-ltb 1 (suc (suc (suc n))) (omega arith), lt-ltb 2 (suc (suc (suc n))) (omega arith)) (simp (and_true, and_assoc))
 
 pub literal_proper : (predicates : ℕ) (arities : List ℕ) (v : ℕ) (l : Literal) →
     proper_literal (offered_arities predicates arities) v l ≡

@@ -1,4 +1,6 @@
 // Admission: a clause record judged against predicates and arities, and a whole table of them. Refusals 3 to 6 in the file's order.
+#![tactic(auto)]
+
 ghost use Rattle.std.specs.Prelude.{◌≡◌, ◌||◌, ◌&&◌, cond, [], ◌-◌, ◌≤◌, eqb, leb, ltb};
 ghost use Rattle.basis.specs.Limits.{most_atoms, most_literals, most_input, most_predicates, most_arguments};
 ghost use Rattle.basis.specs.Atoms.{no_atom};
@@ -19,14 +21,14 @@ use basis::{
 use clauses::{Clause, atoms_of, counted, literals_of, no_atom, no_clause, no_literal, occurs};
 
 // The refusal's number, 0 for none, and the clause as it was read; a refused one is handed back blank.
-#[derive(Drop)]
+#[derive(Clone, Copy)]
 pub struct ClauseAnswer {
     pub number: u8,
     pub clause: Clause,
 }
 
 // The refusal's number, 0 for none, its place, and the table as it was read; a refused one is handed back blank.
-#[derive(Drop)]
+#[derive(Clone, Copy)]
 pub struct TableAnswer {
     pub number: u8,
     pub place: u8,

@@ -1,4 +1,6 @@
 // What a step looks at of the clause table, and what the rules ask of the conflict, of an entry and of the clause that is looked at.
+#![tactic(auto)]
+
 ghost use Rattle.std.specs.Prelude.{◌≡◌, [], ◌∷◌, ◌&&◌, cond, ◌+◌, ◌-◌, ◌≤◌, ◌<◌, min, length, take, leb};
 ghost use Rattle.basis.specs.Limits.{most_brought, most_variables, most_input, most_learned, most_clauses};
 ghost use Rattle.calculus.specs.Checks.{between};
@@ -24,13 +26,13 @@ use merging::reason_of;
 use trail::{Entry, Kind, is_decision};
 
 // What a step looks at of the clause table, filled by whoever owns the table: the one clause, blank where there is none.
-#[derive(Drop)]
+#[derive(Clone, Copy)]
 pub struct Looked {
     pub clause: Clause,
 }
 
 // An atom as a Decide names it: clause, atom number, sign (1 as it stands, 0 denied), and an instance of `count` constants
-#[derive(Drop)]
+#[derive(Clone, Copy)]
 pub struct Source {
     pub clause: u8,
     pub number: u8,
@@ -40,7 +42,7 @@ pub struct Source {
 }
 
 // One proposed step: a rule number and its arguments; those that the rule has no use for are not looked at. A Decide ends with `brought` atoms.
-#[derive(Drop)]
+#[derive(Clone, Copy)]
 pub struct Step {
     pub rule: u8,
     pub clause: u8,
@@ -56,7 +58,7 @@ pub struct Step {
 
 // What the atoms that a Decide names are, filled by whoever owns the table: whether each is named rightly, and the ground atoms, blank past
 // their count
-#[derive(Drop)]
+#[derive(Clone, Copy)]
 pub struct Named {
     pub right: bool,
     pub at: [Atom; MOST_BROUGHT],

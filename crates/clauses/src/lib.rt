@@ -1,5 +1,7 @@
 // Clause records, their blanks, equality of atoms and literals, complements, denials, ground instances, and which variables occur.
 // Slots past a count are blank in every record that is made here or above, so that equal clauses are equal values.
+#![tactic(auto)]
+
 ghost use Rattle.std.specs.Prelude.{◌≡◌, ◌||◌, eqb, pos, neg_ℤ, ◌-ℤ◌, take};
 ghost use Rattle.basis.specs.Limits.{most_atoms, most_literals};
 ghost use Rattle.basis.specs.Atoms as atoms;
@@ -15,7 +17,7 @@ ghost use Rattle.clauses.specs.Records as records;
 use basis::{Atom, Literal, MOST_ATOMS, MOST_LITERALS, MOST_VARIABLES};
 
 // "A clause is a record of at most 12 variables, 24 atoms and 8 literals."
-#[derive(Drop)]
+#[derive(Clone, Copy)]
 pub struct Clause {
     pub variables: u8,
     pub atomcount: u8,
@@ -25,7 +27,7 @@ pub struct Clause {
 }
 
 // A clause with a constant for each of its variables
-#[derive(Drop)]
+#[derive(Clone, Copy)]
 pub struct Instanced {
     pub clause: Clause,
     pub instance: [u8; MOST_VARIABLES],

@@ -1,4 +1,6 @@
 // Decide weighed: the number by which it is refused, or 0, and what it appends where it is not.
+#![tactic(auto)]
+
 ghost use Rattle.deciding.specs.Weighing.{Offered, WeighsAll};
 
 use asking::{
@@ -15,7 +17,7 @@ use trail::{Entry, decided_entry};
 
 // What a Decide comes to: the number of its answer, the decision's entry, the atoms that follow it by their count, and the numbers behind the yes of
 // the test of them and the trail's
-#[derive(Drop)]
+#[derive(Clone, Copy)]
 pub struct Weighed {
     pub own: Entry,
     pub witness: Witness,

@@ -1,5 +1,7 @@
 // Reading a run file from a lent slice of bytes. A cursor goes by value: the place reached, or the refusal that ended the reading,
 // after which nothing more is read.
+#![tactic(auto)]
+
 ghost use Rattle.std.specs.Prelude.{◌≡◌, ◌+◌, ◌≤◌, ◌<◌, leb, pos, length, take, drop};
 ghost use Rattle.lists.specs.Lists.{same_list};
 ghost use Rattle.basis.specs.declared.Version.TheVariants.{One};
@@ -14,35 +16,35 @@ use basis::{ABOVE_LIMIT, ENDS_INSIDE, OUT_OF_RANGE, UNKNOWN_RULE, Version, WRONG
 const MOST_STEPS: u32 = 2000;
 
 // The place reached; or a refusal's number and its place.
-#[derive(Drop)]
+#[derive(Clone, Copy)]
 pub enum Cursor {
     At { place: usize },
     Refused { number: u8, place: usize },
 }
 
 // A number of one byte
-#[derive(Drop)]
+#[derive(Clone, Copy)]
 pub struct Byte {
     pub value: u8,
     pub at: Cursor,
 }
 
 // A number of two or four bytes
-#[derive(Drop)]
+#[derive(Clone, Copy)]
 pub struct Wide {
     pub value: u32,
     pub at: Cursor,
 }
 
 // A version, and the cursor after it
-#[derive(Drop)]
+#[derive(Clone, Copy)]
 pub struct VersionRead {
     pub version: Version,
     pub at: Cursor,
 }
 
 // The number c of an atom
-#[derive(Drop)]
+#[derive(Clone, Copy)]
 pub struct Constant {
     pub value: i32,
     pub at: Cursor,

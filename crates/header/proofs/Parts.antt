@@ -1,9 +1,8 @@
 -- How the parts of a header follow each other, one law for each part.
 use mathlib.Core.Path.{◌∙◌, ◌≡◌, ap, refl, sym}
 use mathlib.Core.List.{List, [], ◌∷◌, map}
-use mathlib.Core.Option.{none}
 use mathlib.Core.Bool.{Bool, ◌&&◌, cond, false, true}
-use Prim.Native.Nat.{◌-◌, ◌<◌, ◌≤◌, zero, ℕ}
+use Prim.Native.Nat.{◌<◌, ◌≤◌, zero, ℕ}
 use native.Mathlib.Omega.{arith}
 use lib.Dec.{T, eqb, eqb→eq, leb}
 use lib.IntN.{ℤ}

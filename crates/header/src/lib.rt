@@ -1,4 +1,6 @@
 // Reading what stands before the first step of a run file: its version, constants, predicates with arities, input clauses, the number of steps.
+#![tactic(auto)]
+
 ghost use Rattle.std.specs.Prelude.{map, ◌≡◌, ◌≤◌};
 ghost use Rattle.basis.specs.Atoms.{no_atom};
 ghost use Rattle.basis.specs.Limits.{most_atoms, most_clauses, most_literals, most_predicates, most_arguments};
@@ -22,50 +24,50 @@ use fields::{
 };
 
 // Predicates with an arity each; slots past the count are 0.
-#[derive(Drop)]
+#[derive(Clone, Copy)]
 pub struct Predicates {
     pub count: u8,
     pub arities: [u8; MOST_PREDICATES],
 }
 
-#[derive(Drop)]
+#[derive(Clone, Copy)]
 struct PredicatesRead {
     predicates: Predicates,
     at: Cursor,
 }
 
-#[derive(Drop)]
+#[derive(Clone, Copy)]
 struct AtomRead {
     atom: Atom,
     at: Cursor,
 }
 
-#[derive(Drop)]
+#[derive(Clone, Copy)]
 struct AtomsRead {
     atoms: [Atom; MOST_ATOMS],
     at: Cursor,
 }
 
-#[derive(Drop)]
+#[derive(Clone, Copy)]
 struct LiteralRead {
     literal: Literal,
     at: Cursor,
 }
 
-#[derive(Drop)]
+#[derive(Clone, Copy)]
 struct LiteralsRead {
     literals: [Literal; MOST_LITERALS],
     at: Cursor,
 }
 
-#[derive(Drop)]
+#[derive(Clone, Copy)]
 struct ClauseRead {
     clause: Clause,
     at: Cursor,
 }
 
 // What stands before the input clauses, their number included, and the cursor there
-#[derive(Drop)]
+#[derive(Clone, Copy)]
 struct Front {
     version: Version,
     constants: u8,
@@ -75,7 +77,7 @@ struct Front {
 }
 
 // What stands before the first step but the clauses themselves, and the cursor there; blank where the file is refused before.
-#[derive(Drop)]
+#[derive(Clone, Copy)]
 pub struct HeaderRead {
     pub version: Version,
     pub constants: u8,

@@ -1,5 +1,7 @@
 // Ground instances of a clause's literals, and which numbers name something of a clause.
 // Slots of an instance past its count are not looked at.
+#![tactic(auto)]
+
 ghost use Rattle.std.specs.Prelude.{◌≡◌, ◌&&◌, not, ◌-◌, ◌≤◌, eqb, get_or, take};
 ghost use Rattle.basis.specs.Limits.{most_variables, most_literals};
 ghost use Rattle.lists.specs.Arrays.{exactly};
@@ -16,7 +18,7 @@ use basis::{Literal, MOST_LITERALS, MOST_VARIABLES};
 use clauses::{Clause, Instanced, ground, literals_of, no_literal, same_literal};
 
 // Ground literals, blank past their count
-#[derive(Drop)]
+#[derive(Clone, Copy)]
 pub struct Instances {
     pub count: u8,
     pub at: [Literal; MOST_LITERALS],

@@ -1,5 +1,7 @@
 // The parts of a merge: variables joined in a table of group numbers, atoms and literals renamed by it, and numbers closed up.
 // What is merged stands in lists with room for two clauses, since the limits are counted after merging.
+#![tactic(auto)]
+
 ghost use Rattle.std.specs.Prelude.{◌≡◌, cond, [], map, ◌≤◌, min, max, eqb, length};
 ghost use Rattle.lists.specs.Lists.{keep_if, up_from, pair_up};
 ghost use Rattle.lists.specs.Arrays.{exactly};
@@ -22,28 +24,28 @@ const BOTH_ATOMS: usize = 48;
 const BOTH_LITERALS: usize = 16;
 
 // Atoms, the first n
-#[derive(Drop)]
+#[derive(Clone, Copy)]
 pub struct Atoms {
     pub n: usize,
     pub at: [Atom; BOTH_ATOMS],
 }
 
 // Literals, the first n
-#[derive(Drop)]
+#[derive(Clone, Copy)]
 pub struct Literals {
     pub n: usize,
     pub at: [Literal; BOTH_LITERALS],
 }
 
 // Variables, or the constants that an instance has for them
-#[derive(Drop)]
+#[derive(Clone, Copy)]
 pub struct Names {
     pub n: usize,
     pub at: [u8; BOTH_VARIABLES],
 }
 
 // A merged clause with its instance, where it is within the limits
-#[derive(Drop)]
+#[derive(Clone, Copy)]
 pub struct Merged {
     pub fits: bool,
     pub of: Instanced,

@@ -1,5 +1,7 @@
 // Merging: the reason of a Propagate, the resolvent and the factored conflict, all by the same steps. Variables are joined in a table of
 // group numbers; atoms and literals are renamed by it, an atom equal to an earlier one going; then numbers close up.
+#![tactic(auto)]
+
 ghost use Rattle.std.specs.Prelude.{◌≡◌, ◌||◌, not, ◌++◌, map, ◌≤◌, min, eqb, get_or, take};
 ghost use Rattle.lists.specs.Lists.{any_of, without};
 ghost use Rattle.basis.specs.Limits.{most_variables, most_atoms, most_literals};
@@ -23,7 +25,7 @@ use joining::{
 };
 
 // A reason, with its own literal's place, from 0
-#[derive(Drop)]
+#[derive(Clone, Copy)]
 pub struct Reason {
     pub of: Instanced,
     pub own: usize,

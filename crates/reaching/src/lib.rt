@@ -1,1 +1,2 @@
 // No code: what every state reached has, as the code needs it.
+#![tactic(auto)]

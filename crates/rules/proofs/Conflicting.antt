@@ -29,7 +29,7 @@ use Rattle.calculus.specs.Tests.{all_false, clause_exists, instance_fits}
 use Rattle.calculus.specs.States.{Conflict, State, Step, clause_at, clauses, stands}
 use Rattle.calculus.specs.Trails.{atoms_of}
 use Rattle.clauses.specs.Records.{clause_of, packed}
-use Rattle.rules.proofs.Naming.{and-true, asked_is, instance_is, instance_long, instance_short, looks_named, named_packed, named_there}
+use Rattle.rules.proofs.Naming.{and_true, asked_is, instance_is, instance_long, instance_short, looks_named, named_packed, named_there}
 use Rattle.reaching.proofs.Reached.{named_proper}
 use Rattle.rules.proofs.Runs.{fine, standing, stands_is, with_conflict}
 use Rattle.rules.proofs.Testing.{carry, decides, hands, not_zero, tested}
@@ -83,10 +83,10 @@ module _ {r : Run} {s : State} (R : RunOf r s) (k : Looked) (c count : ℕ) (ι 
 
       module _ (h₃ : Named ≡ true) (z : Literal) (p : ℕ) (p-is : p ≡ first_number (passes false z (trail_of r.trail r.length) υ) (clause_of k.clause).literals) where
         there : between 1 (r.input + r.learned) c ≡ true
-        there = (and-true (between 1 (r.input + r.learned) c) (instance_fits r.constants (clause_of k.clause) υ) h₃).0
+        there = (and_true (between 1 (r.input + r.learned) c) (instance_fits r.constants (clause_of k.clause) υ) h₃).0
 
         fits : instance_fits s.constants D υ ≡ true
-        fits = (and-true (clause_exists (clauses s) c) (instance_fits s.constants D υ) (named h₃)).1
+        fits = (and_true (clause_exists (clauses s) c) (instance_fits s.constants D υ) (named h₃)).1
 
         number_is : p ≡ first_number (passes false z s.trail υ) D.literals
         number_is = carry R k.clause c looks there (λ D t. p ≡ first_number (passes false z t υ) D.literals) p-is

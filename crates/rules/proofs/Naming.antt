@@ -72,6 +72,6 @@ asked_is {r} {s} R k c looks P = go (between 1 (r.input + r.learned) c) refl
     go true e = λ i. exists_is R k c looks i && P (constants_is R i) (named_says R k c looks e i)
     go false e = ap (λ (b : Bool). b && P r.constants (clause_of k)) e ∙ sym (ap (λ (b : Bool). b && P s.constants (clause_at (clauses s) c)) (sym (exists_is R k c looks) ∙ e))
 
-pub and-true : (a b : Bool) → (a && b) ≡ true → (a ≡ true) × (b ≡ true)
-and-true true b e = (refl, e)
-and-true false b e = absurd (let z : ◌≡◌ {A = ℕ} 0 1 = cc in omega arith)
+pub and_true : (a b : Bool) → (a && b) ≡ true → (a ≡ true) × (b ≡ true)
+and_true true b e = (refl, e)
+and_true false b e = absurd (let z : ◌≡◌ {A = ℕ} 0 1 = cc in omega arith)

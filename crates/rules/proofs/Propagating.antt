@@ -33,7 +33,7 @@ use Rattle.calculus.specs.States.{Propagate, State, Step, clause_at, clauses, co
 use Rattle.calculus.specs.Trails.{atoms_of, foreground, propagated, undefined}
 use Rattle.clauses.specs.Records.{clause_of, packed, packed_instanced}
 use Rattle.rules.proofs.Growing.{appended_stored, cut_stored, few_new}
-use Rattle.rules.proofs.Naming.{and-true, asked_is, instance_is, instance_long, instance_short, looks_named, named_there}
+use Rattle.rules.proofs.Naming.{and_true, asked_is, instance_is, instance_long, instance_short, looks_named, named_there}
 use Rattle.reaching.proofs.Reached.{named_proper, no_conflict}
 use Rattle.rules.proofs.Runs.{conflict_is, constants_is, fine, input_is, learned_is, level_is, packed_as, standing, stands_is, stored, version_is}
 use Rattle.rules.proofs.Testing.{carry, decides, hands, not_zero, tested}
@@ -97,10 +97,10 @@ module _ {r : Run} {s : State} (R : RunOf r s) (k : Looked) (c l count : ℕ) (�
 
       module _ (h₃ : Named ≡ true) (m : Literal) (m-is : m ≡ ground τ (get_or (clause_of k.clause).literals (l - 1) no_literal)) where
         there : between 1 (r.input + r.learned) c ≡ true
-        there = (and-true (between 1 (r.input + r.learned) c) (literal_exists (clause_of k.clause) l && instance_fits r.constants (clause_of k.clause) τ) h₃).0
+        there = (and_true (between 1 (r.input + r.learned) c) (literal_exists (clause_of k.clause) l && instance_fits r.constants (clause_of k.clause) τ) h₃).0
 
         fits : instance_fits s.constants C τ ≡ true
-        fits = (and-true (literal_exists C l) (instance_fits s.constants C τ) (and-true (clause_exists (clauses s) c) (literal_exists C l && instance_fits s.constants C τ) (named h₃)).1).1
+        fits = (and_true (literal_exists C l) (instance_fits s.constants C τ) (and_true (clause_exists (clauses s) c) (literal_exists C l && instance_fits s.constants C τ) (named h₃)).1).1
 
         own : m ≡ g
         own = carry R k.clause c looks there (λ D t. m ≡ ground τ (get_or D.literals (l - 1) no_literal)) m-is

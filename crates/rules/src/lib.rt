@@ -1,5 +1,7 @@
 // The run state and its rules, each a method by value that returns the next run state with the answer. A rule is handed the one clause that
 // it looks at; it changes no other.
+#![tactic(auto)]
+
 ghost use Rattle.std.specs.Prelude.{◌≡◌, cond, ◌+◌, ◌-◌, ◌≤◌, ◌<◌, eqb};
 ghost use Rattle.basis.specs.Limits.{most_atoms, most_brought, most_entries};
 ghost use Rattle.basis.specs.Refusals.{not_false};
@@ -35,7 +37,7 @@ use trail::{
 
 // "The tool takes a state and one proposed step": what a rule changes of the state. The clause table stands beside it. The trail comes first,
 // so that a copy of it begins where a word does.
-#[derive(Drop)]
+#[derive(Clone, Copy)]
 pub struct Run {
     pub trail: [Entry; MOST_ENTRIES],
     pub conflict: Instanced,
@@ -50,7 +52,7 @@ pub struct Run {
 
 // "hands a state back, with a number (0 for accepted) and a place"; the number under which the conflict that stood was learned, 0 where
 // nothing was; and the numbers behind the yes of the step's constraint test, where it was accepted and asked for one.
-#[derive(Drop)]
+#[derive(Clone, Copy)]
 pub struct Stepped {
     pub run: Run,
     pub number: u8,

@@ -98,7 +98,7 @@ none_admitted = record {
   few_predicates = omega arith;
   small_arities = λ n m. absurd (Memᴰ.not-nil m);
   few_clauses = omega arith;
-  in-class = λ C m. absurd (Memᴰ.not-nil m);
+  in_class = λ C m. absurd (Memᴰ.not-nil m);
   limited = λ C m. absurd (Memᴰ.not-nil m);
   new = refl;
 }

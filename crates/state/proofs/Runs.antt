@@ -18,7 +18,7 @@ use Rattle.calculus.specs.States as states
 use Rattle.calculus.proofs.Answers.{judged_by}
 use Rattle.calculus.proofs.Runs.{steps_keep_reached}
 use Rattle.reaching.proofs.Handing.{answered_once, asked_placed, decided, every_step_hands}
-use Rattle.rules.proofs.Naming.{and-true}
+use Rattle.rules.proofs.Naming.{and_true}
 use Rattle.asking.specs.Steps.{step_of}
 use Rattle.asking.specs.declared.Step.{Step}
 use Rattle.state.specs.Runs.{CodeRun, CodeRunsAreRuns, over, then}
@@ -77,7 +77,7 @@ handed_as s x b h R j k = go (eqb b.number accepted && tests (step_of x)) refl k
   where
     go : (c : Bool) → (eqb b.number accepted && tests (step_of x)) ≡ c → Hands c s.constants (question s (step_of x)) h → HandedOn s x (packed_answer b h)
     go true e (numbers, these, is) =
-        let placed = asked_placed s (step_of x) b R j (eqb-true b.number accepted (and-true (eqb b.number accepted) (tests (step_of x)) e).0) in
+        let placed = asked_placed s (step_of x) b R j (eqb-true b.number accepted (and_true (eqb b.number accepted) (tests (step_of x)) e).0) in
         subst (λ (o : Option (List ℤ)). HandedOn s x (packed_answer b o)) (sym is) (record {
           exactly_if = ((λ z. subst T (sym e) tt), λ z. tt);
           checked = λ z. (numbers, refl, numbers_checked s.constants (question s (step_of x)) numbers placed these);

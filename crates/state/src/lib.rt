@@ -1,4 +1,6 @@
 // A state with its clauses: only admission makes it and only steps change it.
+#![tactic(auto)]
+
 ghost use Rattle.std.specs.Prelude.{◌≡◌, ◌≤◌};
 ghost use Rattle.basis.specs.Limits.{most_clauses, most_predicates};
 ghost use Rattle.lists.specs.Arrays.{exactly};
@@ -19,7 +21,7 @@ use trail::empty_trail;
 
 // "A state is predicates with arities, trail, input clauses, learned clauses, constants, level k, and a conflict or none"; its run knows its
 // version. The fields are private: what stands here was admitted or learned.
-#[derive(Drop)]
+#[derive(Clone, Copy)]
 pub struct State {
     run: Run,
     predicates: u8,
@@ -29,7 +31,7 @@ pub struct State {
 
 // "hands a state back, with a number (0 for accepted) and a place"; and the numbers behind the yes of the step's constraint test, where it
 // was accepted and asked for one
-#[derive(Drop)]
+#[derive(Clone, Copy)]
 pub struct Answered {
     pub state: State,
     pub number: u8,
@@ -39,7 +41,7 @@ pub struct Answered {
 
 // What admission hands back: a state; or the refusal's number and place. "A refused file yields no state": no enum holds an array, so that some
 // record stands beside a refusal, and it is that of no clauses, no predicates and no constants.
-#[derive(Drop)]
+#[derive(Clone, Copy)]
 pub struct Opened {
     pub state: State,
     pub number: u8,

@@ -128,8 +128,8 @@ module _ {t : Tested} {ts az : List Atom} (G : Gathers t ts az) where
   pub step_says : step_atoms t ≡ az
   step_says = ap₂ (λ (k : ℕ) r. drop k r) (ap (λ r. r.known) G.packed) tested_says ∙ drop_at ts az (length ts) refl
 
-  pub in-room : InRoom t
-  in-room = subst InRoom (sym G.packed) (record { ordered = omega (arith, length-append ts az); few = few; few_step = omega (arith, length-append ts az, G.few_step) })
+  pub in_room : InRoom t
+  in_room = subst InRoom (sym G.packed) (record { ordered = omega (arith, length-append ts az); few = few; few_step = omega (arith, length-append ts az, G.few_step) })
 
 pub gathers_once : GathersOnce
 gathers_once t u ts az a b = a.packed ∙ sym b.packed

@@ -1,5 +1,7 @@
 // What the constraint test is asked: the trail's atoms from the first entry on, then the step's; which of them are new; and what a Decide asks of the
 // trail.
+#![tactic(auto)]
+
 ghost use Rattle.std.specs.Prelude.{◌≡◌, [], ◌≤◌, take};
 ghost use Rattle.basis.specs.Limits.{most_atoms, most_entries, most_tested};
 ghost use Rattle.calculus.specs.Clauses.{ground_atoms};
@@ -20,7 +22,7 @@ use constraint::Answer;
 use trail::{Entry, Kind, is_about};
 
 // The atoms put to the constraint test: `known` of the trail, then the step's, `count` in all; blank past them
-#[derive(Drop)]
+#[derive(Clone, Copy)]
 pub struct Tested {
     pub known: u8,
     pub count: u8,
@@ -28,7 +30,7 @@ pub struct Tested {
 }
 
 // The atoms of a step, blank past their count: those it brings, or those not yet on the trail
-#[derive(Drop)]
+#[derive(Clone, Copy)]
 pub struct Atoms {
     pub count: u8,
     pub at: [Atom; MOST_ATOMS],
@@ -36,7 +38,7 @@ pub struct Atoms {
 
 // What a Decide asks of the trail and of the atoms that it brings: whether its literal is undefined, whether they are, and the numbers behind the
 // yes of the test of them and the trail's
-#[derive(Drop)]
+#[derive(Clone, Copy)]
 pub struct DecisionSeen {
     pub free: bool,
     pub fresh: bool,

@@ -95,7 +95,9 @@ decisions_most es (suc k) = go (is_decision (entry_of (get_or es k past_end))) (
 -- How many entries are kept where i is the largest level so far: up to the last with no more decisions than that
 pub kept_turn : (e : calculus.Entry) (t : Trail) (ls : List Literal)
     → length (cut (largest_level (e ∷ t) ls) (e ∷ t)) ≡ cond (leb (decisions (e ∷ t)) (largest_level (e ∷ t) ls)) (length t + 1) (length (cut (largest_level t ls) t))
-kept_turn e t ls = rw (largest_turn e t ls, add-one) (go (any_of (λ l. is_about l e) ls))
+kept_turn e t ls =
+    let P : ℕ → Type 0 = λ i. length (cut i (e ∷ t)) ≡ cond (leb (decisions (e ∷ t)) i) (length t + 1) (length (cut (largest_level t ls) t)) in
+    subst P (sym (largest_turn e t ls)) (rw add-one (go (any_of (λ l. is_about l e) ls)))
   where
     d : ℕ
     d = decisions (e ∷ t)

@@ -16,7 +16,7 @@ is_about l e = is_literal l e || is_literal (complement l) e
 -- ---- refusal 12
 
 -- The literal's instance is false, or it need not be: where only the others must be, it is `own`. For Propagate `others` is true, and all
--- of a clause's literals pass if `othersFalse`; for Conflict it is false, and they do if `allFalse`.
+-- of a clause's literals pass if `others_false`; for Conflict it is false, and they do if `all_false`.
 abbrev pub passes : Bool → Literal → Trail → List ℕ → Literal → Bool
 passes others own t τ m = others && same_literal (ground τ m) own || is_false t (ground τ m)
 

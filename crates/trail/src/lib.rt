@@ -1,6 +1,8 @@
 // The trail: entries of both kinds in a fixed array, and what the rules ask of it.
 // An array with its length is the trail of its first entries; length is at most 160. Where entries are added or taken away the array is
 // also blank past its length, and each entry is the record of what it says: `OwnTrail`.
+#![tactic(auto)]
+
 ghost use Rattle.std.specs.Prelude.{◌≡◌, [], ◌&&◌, cond, suc, ◌≤◌, ◌<◌, take};
 ghost use Rattle.std.proofs.Math.Option.{none, some};
 ghost use Rattle.basis.specs.Limits.{most_entries};
@@ -21,7 +23,7 @@ use instances::{
 };
 
 // What an entry is
-#[derive(Drop)]
+#[derive(Clone, Copy)]
 pub enum Kind {
     Background,
     Brought,
@@ -33,7 +35,7 @@ pub enum Kind {
 // clause, atom number, sign, and an instance of `count` constants. A foreground entry has a literal and keeps its step: clause, literal number,
 // Decide's sign, an instance, and how many atoms a decision brought. `spare` is 0: it fills the record up to 32 bytes, so that the blank trail is
 // one run of zeros.
-#[derive(Drop)]
+#[derive(Clone, Copy)]
 pub struct Entry {
     pub atom: Atom,
     pub kind: Kind,
@@ -48,14 +50,14 @@ pub struct Entry {
 }
 
 // What Propagate and Conflict ask of a trail: whether a literal is undefined, and refusal 12's number
-#[derive(Drop)]
+#[derive(Clone, Copy)]
 pub struct LiteralsSeen {
     pub free: bool,
     pub first: u8,
 }
 
 // What Backtrack asks of a trail: L's level, the largest level in D, and how many entries stand before the decision after that
-#[derive(Drop)]
+#[derive(Clone, Copy)]
 pub struct LevelsSeen {
     pub own: u8,
     pub others: u8,
