@@ -1,5 +1,7 @@
 // Atoms, literals and clauses as a run file has them, written into a lent buffer. Each function writes from a place on and answers the place after
 // what it wrote; the caller sees to the room.
+#![tactic(auto)]
+
 ghost use Rattle.std.specs.Prelude.{◌≡◌, cond, ◌+◌, ◌≤◌, length};
 ghost use Rattle.runfile.specs.Written.{bytes_of, unsigned, joined, written_argument, written_atom, written_literal, written_clause};
 ghost use Rattle.admission.specs.Offered.{offered_arities};

@@ -1,5 +1,7 @@
 // Atoms, literals, instances and clauses as text, written into a lent buffer. Each function writes from a place on and answers the place after
 // what it wrote; the caller sees to the room.
+#![tactic(auto)]
+
 ghost use Rattle.std.specs.Prelude.{◌≡◌, [], ◌∷◌, ◌+◌, ◌*◌, ◌≤◌, ◌<◌, length, take};
 ghost use Rattle.basis.specs.Limits.{most_variables, most_atoms, most_literals};
 ghost use Rattle.lists.specs.Arrays.{exactly};

@@ -89,7 +89,7 @@ file_right s d d' (Bytes n k p) (room, ends, (w, listing, count, left)) = go end
     go (with_file number place f) (bad m q) g o =
         let m-is : m ≡ number = cc in
         let q-is : q ≡ place = cc in
-        FileAnswered.refused f (rw (sym m-is) o.in_table) (rw (sym q-is) o.in-file) (text ∙ printed_once (plain whole) (answers.answer_unique whole) (nothing (plain whole)) (nothing_once (plain whole)) last_line s w (bad_line number place) listing (bad_file number place f))
+        FileAnswered.refused f (rw (sym m-is) o.in_table) (rw (sym q-is) o.in_file) (text ∙ printed_once (plain whole) (answers.answer_unique whole) (nothing (plain whole)) (nothing_once (plain whole)) last_line s w (bad_line number place) listing (bad_file number place f))
     go (with_step F next e f t) (bad m q) g o = absurd (let z : ◌≡◌ {A = ℕ} 0 1 = cc in omega arith)
     go (with_step F next e f t) (got G m) g o = FileAnswered.listed G (g ∙ ap (got G) o.1) (subst (Listing s) (sym text) listing) (tried_in_table F.steps t)
 

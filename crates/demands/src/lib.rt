@@ -1,1 +1,2 @@
 // No code: the user's demands as statements of the code.
+#![tactic(auto)]

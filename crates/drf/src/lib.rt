@@ -1,4 +1,6 @@
 // Judging, and clauses from lookup tables, for programs in C or Rust: slices are lent, and the answer is numbers.
+#![tactic(auto)]
+
 ghost use Rattle.std.specs.Prelude.{◌≡◌, ◌<◌};
 ghost use Rattle.drf.specs.Export.{Inspects, InspectsNumbers, Judges, Tables, count, match_of, noted, table_code};
 

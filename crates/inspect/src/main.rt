@@ -1,5 +1,7 @@
 // The program for reviewers: reads a run file from standard input and prints its listing, and then the final state. The word `numbers` asks for
 // the numbers that accepted steps hand on.
+#![tactic(auto)]
+
 ghost use Rattle.judging.specs.Judging.{WrittenWithin};
 
 use judging::{MOST_INSPECTION, MOST_WITH_NUMBERS, Written};
@@ -10,7 +12,7 @@ use words::Program;
 const MOST_READ: usize = 65537;
 
 // What was written, printed
-fn print_text(written: Written, text: &[u8])
+fn print_text(rt: HostRuntime, written: Written, text: &[u8])
     requires { WrittenWithin text.now written }
 {
     match written {
@@ -19,45 +21,45 @@ fn print_text(written: Written, text: &[u8])
             number,
             place,
         } => {
-            streams::print(b"inspect", &text[..count]);
+            streams::print(rt, b"inspect", &text[..count]);
         }
         Written::Short => {}
     }
 }
 
 // The listing and the final state of a file; the buffer is long enough for all.
-fn print_inspection(file: &[u8]) {
+fn print_inspection(rt: HostRuntime, file: &[u8]) {
     let mut text = [0u8; MOST_INSPECTION];
     let written = judging::inspect(file, &mut text);
-    print_text(written, &text);
+    print_text(rt, written, &text);
 }
 
 // The same with the numbers
-fn print_numbers(file: &[u8]) {
+fn print_numbers(rt: HostRuntime, file: &[u8]) {
     let mut text = [0u8; MOST_WITH_NUMBERS];
     let written = judging::inspect_numbers(file, &mut text);
-    print_text(written, &text);
+    print_text(rt, written, &text);
 }
 
 // What the words ask for
-fn print_asked(file: &[u8], numbers: bool) {
+fn print_asked(rt: HostRuntime, file: &[u8], numbers: bool) {
     if numbers {
-        print_numbers(file);
+        print_numbers(rt, file);
     } else {
-        print_inspection(file);
+        print_inspection(rt, file);
     }
 }
 
-fn main() {
-    let words = streams::words(Program::Inspect);
+fn main(rt: HostRuntime) {
+    let words = streams::words(rt, Program::Inspect);
     if 0 < words.unknown {
-        streams::tell_unknown(b"inspect", words.unknown);
+        streams::tell_unknown(rt, b"inspect", words.unknown);
         return;
     }
     let mut file = [0u8; MOST_READ];
-    let read = streams::read_input(b"inspect", &mut file);
+    let read = streams::read_input(rt, b"inspect", &mut file);
     match read {
-        Read::Bytes { count } => print_asked(&file[..count], words.numbers),
+        Read::Bytes { count } => print_asked(rt, &file[..count], words.numbers),
         Read::Failed => {}
     }
 }

@@ -1,5 +1,7 @@
 // A state as text for reviewers, written into a lent buffer. Each function writes from a place on and answers the place after what it wrote;
 // the caller sees to the room.
+#![tactic(auto)]
+
 ghost use Rattle.std.specs.Prelude.{◌+◌, ◌*◌, ◌≤◌, ◌<◌, length, take};
 ghost use Rattle.basis.specs.Limits.{most_entries, most_clauses, most_constants};
 ghost use Rattle.clauses.specs.Counts.{Counts};

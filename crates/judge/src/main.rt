@@ -1,4 +1,6 @@
 // The program: reads a run file from standard input and prints its listing. It takes no words.
+#![tactic(auto)]
+
 use judging::{MOST_LISTING, Written};
 use streams::Read;
 use words::Program;
@@ -7,7 +9,7 @@ use words::Program;
 const MOST_READ: usize = 65537;
 
 // The listing of a file, printed; the buffer is long enough for every listing.
-fn print_listing(file: &[u8]) {
+fn print_listing(rt: HostRuntime, file: &[u8]) {
     let mut text = [0u8; MOST_LISTING];
     let written = judging::judge(file, &mut text);
     match written {
@@ -16,22 +18,22 @@ fn print_listing(file: &[u8]) {
             number,
             place,
         } => {
-            streams::print(b"judge", &text[..count]);
+            streams::print(rt, b"judge", &text[..count]);
         }
         Written::Short => {}
     }
 }
 
-fn main() {
-    let words = streams::words(Program::Judge);
+fn main(rt: HostRuntime) {
+    let words = streams::words(rt, Program::Judge);
     if 0 < words.unknown {
-        streams::tell_unknown(b"judge", words.unknown);
+        streams::tell_unknown(rt, b"judge", words.unknown);
         return;
     }
     let mut file = [0u8; MOST_READ];
-    let read = streams::read_input(b"judge", &mut file);
+    let read = streams::read_input(rt, b"judge", &mut file);
     match read {
-        Read::Bytes { count } => print_listing(&file[..count]),
+        Read::Bytes { count } => print_listing(rt, &file[..count]),
         Read::Failed => {}
     }
 }

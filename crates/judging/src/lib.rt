@@ -1,4 +1,6 @@
 // A whole run file judged into a lent buffer.
+#![tactic(auto)]
+
 ghost use Rattle.std.specs.Prelude.{◌≤◌, length};
 ghost use Rattle.basis.specs.Numbers.{whole};
 ghost use Rattle.calculus.specs.Runs.{plain};
@@ -12,7 +14,7 @@ use trying::run_steps;
 
 // What judging a file into a buffer answers: how many bytes were written, and the number and place that judging ended with; or that the buffer
 // is shorter than a text can be, and was left.
-#[derive(Drop)]
+#[derive(Clone, Copy)]
 pub enum Written {
     Bytes {
         count: usize,

@@ -25,10 +25,10 @@ use Rattle.listing.proofs.Lines.{length_accepted, length_refused, length_bad, le
 
 -- A line for each step; the steps are among the 2,000.
 module _ (J : Judge) (M : Modest J) where
-  tried_length : {o : J.Over} {n : ℕ} {w : List ℕ} {e : Reply J.Over} (xs : List Step) → Reached J o → n + length xs ≤ most_steps + 1 → Tried J o n xs w e → length w ≤ length xs * most_line
+  tried_length : (xs : List Step) {o : J.Over} {n : ℕ} {w : List ℕ} {e : Reply J.Over} → Reached J o → n + length xs ≤ most_steps + 1 → Tried J o n xs w e → length w ≤ length xs * most_line
   tried_length [] R h through = omega arith
-  tried_length {o} {n} (x ∷ xs) R h (refused a j z) = omega (arith, length_refused n x a.number (omega arith) (omega (arith, M.in_table o x a R j)))
-  tried_length {o} {n} (x ∷ xs) R h (went {u = u} {w = w} a j z b t) =
+  tried_length (x ∷ xs) {o} {n} R h (refused a j z) = omega (arith, length_refused n x a.number (omega arith) (omega (arith, M.in_table o x a R j)))
+  tried_length (x ∷ xs) {o} {n} R h (went {u = u} {w = w} a j z b t) =
       let R' = steps_keep_reached J o x a R j in
       let s = J.state a.state in
       let line = length_accepted n x (length s.trail) s.level (omega arith) (omega (arith, M.few_entries a.state R')) (omega (arith, M.low_level a.state R')) in
@@ -43,9 +43,9 @@ file_refusal (inr is) = omega arith
 pub listing_fits : ListingFits
 listing_fits J M s w h (bad_file n p f) =
     let r = subst (Outcome s) f (every_file s) in
-    omega (arith, length_bad n p (file_refusal r.in_table) (omega (arith, r.in-file)))
+    omega (arith, length_bad n p (file_refusal r.in_table) (omega (arith, r.in_file)))
 listing_fits J M s w h (good_file F next {w = lines} a f t) =
-    let (sayable, whole-file) = subst (Outcome s) f (every_file s) in
+    let (sayable, whole_read) = subst (Outcome s) f (every_file s) in
     let l = tried_length J M F.steps (admitted_reached J (opened F) sayable.admitted) (omega (arith, sayable.few_steps)) t in
     omega (arith, l, sayable.few_steps, length_last (stated J a), length-append lines (last_line (stated J a)))
 

@@ -73,8 +73,8 @@ no_literals (some K) e = (K, refl, empty K.clause.literals e)
 pub refuted_has_no_model : RefutedHasNoModel
 refuted_has_no_model N J sound s w v (bad_file n p f) e = absurd (not_bad n p v e)
 refuted_has_no_model N J sound s w v (good_file F next {w = lines} a f t) e =
-    let (sayable, whole-file) = subst (Outcome s) f (every_file s) in
+    let (sayable, whole_read) = subst (Outcome s) f (every_file s) in
     let (ys, r) = tried_run t in
     let conflict = (J.state a.state).conflict in
     let (K, c, z) = no_literals conflict (closing_refuted lines v (is_refutation conflict) a.number e) in
-    (F, f ∙ ap (got F) whole-file, sound (opened F) a.state ys K (admitted_sound N (opened F) sayable.admitted) r c z)
+    (F, f ∙ ap (got F) whole_read, sound (opened F) a.state ys K (admitted_sound N (opened F) sayable.admitted) r c z)

@@ -45,7 +45,7 @@ TriedAlike = (J : Judge) (B : Beneath J) (o : J.Over) (n : ℕ) (xs : List Step)
 abbrev pub EndsOnce : Type 1
 EndsOnce = (J : Judge) → AnswersOnce J → (s : List ℕ) (n p m q : ℕ) → Ends J s n p → Ends J s m q → (n ≡ m) × (p ≡ q)
 
--- Reading no more than `mostRead` bytes loses nothing: a file prints what its first bytes print, and ends as they do.
+-- Reading no more than `most_read` bytes loses nothing: a file prints what its first bytes print, and ends as they do.
 abbrev pub FirstBytesPrinted : Type 1
 FirstBytesPrinted = (J : Judge) (B : Beneath J) (after : Answer → List ℕ) (s w : List ℕ) → Printed J B after s w ↔ Printed J B after (take most_read s) w
 
@@ -58,7 +58,7 @@ pub record Modest (J : Judge) : Type 0 where
   pub low_level : (o : J.Over) → Reached J o → (J.state o).level ≤ most_entries
   pub in_table : (o : J.Over) (x : Step) (a : Reply J.Over) → Reached J o → J.Gives o x a → a.number ≤ no_room
 
--- What such a judge prints with the last line, of a file that a machine can hold, has at most `mostListing` bytes.
+-- What such a judge prints with the last line, of a file that a machine can hold, has at most `most_listing` bytes.
 abbrev pub ListingFits : Type 1
 ListingFits = (J : Judge) → Modest J → (s w : List ℕ) → length s < 18446744073709551616 → Printed J (nothing J) last_line s w → length w ≤ most_listing
 

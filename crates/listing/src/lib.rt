@@ -1,5 +1,7 @@
 // The lines of a listing, written into a lent buffer: each function writes from a place on and answers the place after what it wrote. The
 // caller sees to the room.
+#![tactic(auto)]
+
 ghost use Rattle.std.specs.Prelude.{◌≡◌, ◌+◌, ◌≤◌, length};
 ghost use Rattle.runfile.specs.File.{most_steps};
 ghost use Rattle.text.specs.Text.{Wrote};

@@ -34,11 +34,11 @@ row_decided keys results j =
     map_dec (λ h. record { has_result = h.0; rises = h.1.0; key_range = h.1.1.0; result_range = h.1.1.1 }) (λ h. (h.has_result, (h.rises, (h.key_range, h.result_range))))
     (Dec.and (dec_lt j (length results)) (Dec.and (rises_decided keys j) (Dec.and (range_decided (get_or keys j (pos 0))) (range_decided (get_or results j (pos 0))))))
 
-in-order-decided : (keys results : List ℤ) → Dec (InOrder keys results)
-in-order-decided keys results = all_decided (RowInOrder keys results) (row_decided keys results) (length keys)
+in_order_decided : (keys results : List ℤ) → Dec (InOrder keys results)
+in_order_decided keys results = all_decided (RowInOrder keys results) (row_decided keys results) (length keys)
 
 pub every_table : EveryTable
-every_table keys results m d = by (dec_le (length keys) most_rows) (in-order-decided keys results) (dec_le (length w) (length d))
+every_table keys results m d = by (dec_le (length keys) most_rows) (in_order_decided keys results) (dec_le (length w) (length d))
   where
     w : List ℕ
     w = bytes_for keys results m

@@ -14,7 +14,7 @@ use Rattle.basis.specs.declared.Atom.{Atom}
 use Rattle.basis.specs.declared.Literal.{Literal}
 use Rattle.basis.specs.Atoms.{InRange, Proper}
 use Rattle.calculus.specs.Clauses.{Clause}
-use Rattle.calculus.specs.Class.{InClass, Limited, Occurs, ProperLiteral, arity_of, in-literal}
+use Rattle.calculus.specs.Class.{InClass, Limited, Occurs, ProperLiteral, arity_of, in_literal}
 use Rattle.runfile.specs.Readers.{got}
 use Rattle.runfile.specs.File.{File, file, most_file}
 use Rattle.runfile.specs.Written.{header_with, joined, written, written_clause}
@@ -86,8 +86,8 @@ module _ (arities : List ℕ) (two : arity_of arities 1 ≡ 2) where
 
       occurs : (x : ℕ) → 1 ≤ x → x ≤ 2 → Occurs (row_clause r n) x
       occurs zero a b = absurd (omega arith)
-      occurs (suc zero) a b = in-literal gets (Memᴰ.head refl) (Memᴰ.head refl)
-      occurs (suc (suc zero)) a b = in-literal gets (Memᴰ.head refl) (Memᴰ.tail (Memᴰ.head refl))
+      occurs (suc zero) a b = in_literal gets (Memᴰ.head refl) (Memᴰ.head refl)
+      occurs (suc (suc zero)) a b = in_literal gets (Memᴰ.head refl) (Memᴰ.tail (Memᴰ.head refl))
       occurs (suc (suc (suc x))) a b = absurd (omega arith)
 
 pub table_in_class : TableInClass
@@ -122,7 +122,7 @@ module _ {keys results : List ℤ} (A : TableAccepted keys results) (m : Match) 
       (Memᴰ.append_cases (before ++ cs) k)
     where
       own : Memᴰ C (before ++ after) → InClass F.arities C × Limited C
-      own q = let n = subst (Memᴰ C) (sym parted) q in (h.admitted.in-class C n, h.admitted.limited C n)
+      own q = let n = subst (Memᴰ C) (sym parted) q in (h.admitted.in_class C n, h.admitted.limited C n)
 
   counted_with : length (before ++ cs ++ after) ≡ length F.input + length keys
   counted_with =
@@ -135,7 +135,7 @@ module _ {keys results : List ℤ} (A : TableAccepted keys results) (m : Match) 
       few_predicates = h.admitted.few_predicates;
       small_arities = h.admitted.small_arities;
       few_clauses = omega (arith, counted_with);
-      in-class = λ C k. (clauses_held C k).0;
+      in_class = λ C k. (clauses_held C k).0;
       limited = λ C k. (clauses_held C k).1;
       new = refl;
     };

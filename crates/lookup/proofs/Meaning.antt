@@ -2,11 +2,11 @@
 -- true of these results alone is the least.
 use mathlib.Core.Path.{◌≡◌, refl, sym, ap, ◌∙◌, subst}
 use mathlib.Core.Logic.Dec
-use mathlib.Core.Logic.{◌⊎◌, inl, inr, ⊎_elim}
+use mathlib.Core.Logic.{◌⊎◌, inl, inr}
 use mathlib.Core.List.Memᴰ
 use mathlib.Core.List.{List, [], ◌∷◌, Memᴰ}
 use mathlib.Core.Option.{Option, none, some}
-use Prim.Native.Nat.{ℕ, zero, suc, ◌<◌}
+use Prim.Native.Nat.{ℕ, zero, suc}
 use native.Mathlib.Omega.{arith}
 use lib.IntN.{◌-ℤ◌, neg_ℤ, pos, ℤ, ℤ_discrete}
 use lib.Signed.{◌≤ℤ◌, ◌<ℤ◌, lt_z, lt_z_yes, lt_z_no, clash_ℤ, ≤ℤ_refl, <ℤ_irrefl}
@@ -77,20 +77,20 @@ module _ (x y : ℤ) where
           largest : (p : Row) → Memᴰ p (r ∷ later) → p.key ≤ℤ x → p.key ≤ℤ o.key
           largest p n l = first_or_later n (λ q. subst (λ (z : Row). z.key ≤ℤ o.key) (sym q) (<→≤ (R.0 o f.0))) (λ k. f.2 p k l)
 
-  returns-covers : (m : Match) (rows : List Row) → Rises rows → Returns m rows x y → Covers m rows x y
-  returns-covers Exact [] R (o, f, e) = Memᴰ.not-nil f.0
-  returns-covers Approximate [] R (o, f, e) = Memᴰ.not-nil f.0
-  returns-covers Exact (r ∷ later) R (o, f, e) =
+  returns_covers : (m : Match) (rows : List Row) → Rises rows → Returns m rows x y → Covers m rows x y
+  returns_covers Exact [] R (o, f, e) = Memᴰ.not-nil f.0
+  returns_covers Approximate [] R (o, f, e) = Memᴰ.not-nil f.0
+  returns_covers Exact (r ∷ later) R (o, f, e) =
       first_or_later f.0
       (λ q. inl (at_key (subst (λ (z : Row). z.key ≡ x) q f.1), subst (λ (z : Row). z.result ≡ y) q e))
-      (λ n. inr (returns-covers Exact later R.1 (o, (n, f.1), e)))
+      (λ n. inr (returns_covers Exact later R.1 (o, (n, f.1), e)))
     where
       at_key : r.key ≡ x → (r.key ≤ℤ x) × (x ≤ℤ r.key)
       at_key q = subst (λ (z : ℤ). (r.key ≤ℤ z) × (z ≤ℤ r.key)) q (≤ℤ_refl r.key, ≤ℤ_refl r.key)
-  returns-covers Approximate (r ∷ later) R (o, f, e) =
+  returns_covers Approximate (r ∷ later) R (o, f, e) =
       first_or_later f.0
       (λ q. inl (within_band r later x (subst (λ (z : Row). z.key ≤ℤ x) q f.1) (beyond q), subst (λ (z : Row). z.result ≡ y) q e))
-      (λ n. inr (returns-covers Approximate later R.1 (o, (n, f.1, λ p k l. f.2 p (Memᴰ.tail k) l), e)))
+      (λ n. inr (returns_covers Approximate later R.1 (o, (n, f.1, λ p k l. f.2 p (Memᴰ.tail k) l), e)))
     where
       -- The key of no later row is at most x: it would be larger than the largest.
       beyond : o ≡ r → Above x later
@@ -207,7 +207,7 @@ gets_exactly keys results A m arities two x y =
     let rows = rows_of keys results in
     let R = accepted_rise A in (
       λ f. covers_returns x y m rows R ((Dec.not-not (covers_decided m rows x y)).0 (f (least arities two m rows) (least_satisfies arities two m rows))),
-      λ h. covers_follows arities two m rows x y (returns-covers x y m rows R h),
+      λ h. covers_follows arities two m rows x y (returns_covers x y m rows R h),
     )
 
 pub gets_exactly_decided : GetsExactlyDecided
@@ -215,7 +215,7 @@ gets_exactly_decided keys results A m arities two x y =
     let rows = rows_of keys results in
     let R = accepted_rise A in (
       λ f. covers_returns x y m rows R (f (least arities two m rows) (least_decided arities two m rows) (least_satisfies arities two m rows)),
-      λ h I d s. (Dec.not-not (d 1 (x ∷ y ∷ []))).0 (covers_follows arities two m rows x y (returns-covers x y m rows R h) I s),
+      λ h I d s. (Dec.not-not (d 1 (x ∷ y ∷ []))).0 (covers_follows arities two m rows x y (returns_covers x y m rows R h) I s),
     )
 
 -- ---- one result
@@ -231,7 +231,7 @@ same_row (k ∷ later) r o R p q e =
     apart : (a b : Row) → a ≡ k → Memᴰ b later → a.key ≡ b.key → ⊥
     apart a b f n g = <ℤ_irrefl (subst (λ (z : ℤ). z <ℤ b.key) (sym (ap (λ (w : Row). w.key) f) ∙ g) (R.0 b n))
 
-pub returns-once : ReturnsOnce
-returns-once keys results A Exact x y z (r, f, e) (o, g, h) = sym e ∙ ap (λ (w : Row). w.result) (same_row (rows_of keys results) r o (accepted_rise A) f.0 g.0 (f.1 ∙ sym g.1)) ∙ h
-returns-once keys results A Approximate x y z (r, f, e) (o, g, h) =
+pub returns_once : ReturnsOnce
+returns_once keys results A Exact x y z (r, f, e) (o, g, h) = sym e ∙ ap (λ (w : Row). w.result) (same_row (rows_of keys results) r o (accepted_rise A) f.0 g.0 (f.1 ∙ sym g.1)) ∙ h
+returns_once keys results A Approximate x y z (r, f, e) (o, g, h) =
     sym e ∙ ap (λ (w : Row). w.result) (same_row (rows_of keys results) r o (accepted_rise A) f.0 g.0 (≤ℤ_antisym (g.2 r f.0 f.1) (f.2 o g.0 g.1))) ∙ h

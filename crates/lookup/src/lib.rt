@@ -1,4 +1,6 @@
 // Clauses from a lookup table: rows of key and result make input clauses in file form. Gets is predicate 1, x variable 1 and y variable 2.
+#![tactic(auto)]
+
 ghost use Rattle.std.specs.Prelude.{◌≡◌, ℕ, suc, ◌≤◌, ◌<◌, pos, ◌<ℤ◌, length, get_or};
 ghost use Rattle.std.proofs.Math.Option.{none, some};
 ghost use Rattle.basis.specs.Atoms.{InRange};
@@ -27,14 +29,14 @@ const ATOM_BYTES: usize = 6;
 const ROW_BYTES: usize = 31;
 
 // The kind of match: the row of the equal key, or that of the largest key not above
-#[derive(Drop)]
+#[derive(Clone, Copy)]
 pub enum Match {
     Exact,
     Approximate,
 }
 
 // How many bytes were written; or a refusal, after which the buffer is as it was.
-#[derive(Drop)]
+#[derive(Clone, Copy)]
 pub enum Tabled {
     Bytes { count: usize },
     Refused { number: u8, place: u8 },
@@ -124,7 +126,7 @@ fn gets_literal() -> Literal
 // The clause of a row in which x has no upper end
 fn endless(key: i32, res: i32) -> Clause
     requires { InRange key × InRange res }
-    ensures* { λ r. ⌜ r ≡ packed (row_clause (record { key = key; result = res }) none) ⌝ }
+    ensures { result ≡ packed (row_clause (record { key = key; result = res }) none) }
 {
     let mut c = no_clause();
     c.variables = 2;
@@ -140,7 +142,7 @@ fn endless(key: i32, res: i32) -> Clause
 // The clause of a row in which x ends at `last`
 fn banded(key: i32, last: i32, res: i32) -> Clause
     requires { InRange key × InRange res }
-    ensures* { λ r. ⌜ r ≡ packed (row_clause (record { key = key; result = res }) (some last)) ⌝ }
+    ensures { result ≡ packed (row_clause (record { key = key; result = res }) (some last)) }
 {
     let mut c = no_clause();
     c.variables = 2;

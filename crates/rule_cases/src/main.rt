@@ -5,7 +5,9 @@
 // its place, given below. A clause is its three counts, so many atoms and so many literals, and an instance; an atom is p, q, a sign (1 is
 // minus) and c in three bytes; a literal is a sign (1 is plus), a predicate and three arguments; a step is its seven numbers, an instance, how many
 // atoms it brings, and two of them, each a clause, an atom number, a sign and the count and constants of an instance.
-ghost use Rattle.std.specs.Prelude.{◌≡◌, ◌<◌, length};
+#![tactic(auto)]
+
+ghost use Rattle.std.specs.Prelude.{◌≡◌, ◌<◌, ◌≤◌, length};
 ghost use Rattle.inspection.specs.Writing.{most_state};
 ghost use Rattle.state.specs.States.{Made};
 
@@ -16,8 +18,11 @@ use basis::{
 };
 use clauses::{Clause, Instanced, no_atom, no_literal};
 use inspection::{MOST_STATE, put_conflict, put_state};
-use libc::{STDIN_FILENO, STDOUT_FILENO};
 use state::{State, admit};
+use std::io::Read;
+
+// Cases are read no further.
+const MOST_READ: usize = 65536;
 
 // ---- places in a case; its name stands first
 
@@ -223,8 +228,9 @@ fn table_of(s: &[u8]) -> [Clause; MOST_INPUT] {
 
 // ---- writing
 
-fn write(s: &[u8]) {
-    io::write_all(STDOUT_FILENO, s);
+// What can't be written is not told: it is missing where the output is compared.
+fn write(rt: HostRuntime, s: &[u8]) {
+    let _ = rt.write_all(s);
 }
 
 // Room for the text of any state
@@ -234,69 +240,66 @@ fn room() -> [u8; MOST_STATE]
     [0; MOST_STATE]
 }
 
-fn print_state(state: State)
+fn print_state(rt: HostRuntime, state: State)
     requires { Made state }
 {
     let run = state.run();
     let table = state.table();
     let mut out = room();
     let end = put_state(&mut out, 0, run, table);
-    write(&out[..end]);
+    write(rt, &out[..end]);
 }
 
 // A clause with its instance, as a state's conflict is printed
-fn print_merged(fits: bool, n: Instanced) {
+fn print_merged(rt: HostRuntime, fits: bool, n: Instanced) {
     let mut out = room();
     let end = put_conflict(&mut out, 0, fits, n);
-    write(&out[..end]);
+    write(rt, &out[..end]);
 }
 
 // "number place" and the end of the line
-fn print_answer(number: u8, place: u8) {
-    io::print_decimal(STDOUT_FILENO, number as u64);
-    write(b" ");
-    io::print_decimal(STDOUT_FILENO, place as u64);
-    write(b"\n");
+fn print_answer(rt: HostRuntime, number: u8, place: u8) {
+    let _ = println!(rt; "{number} {place}");
 }
 
 // The name and a space
-fn print_name(s: &[u8]) {
-    let n = io::count(byte(s, NAME_LENGTH, 0) as isize, s);
-    write(&s[..n]);
-    write(b" ");
+fn print_name(rt: HostRuntime, s: &[u8]) {
+    let n = (byte(s, NAME_LENGTH, 0) as usize).min(s.len());
+    write(rt, &s[..n]);
+    write(rt, b" ");
 }
 
 // ---- merging; literals are numbered from 0
 
 // The reason of a literal, and where that literal then stands
-fn reason(s: &[u8]) {
+fn reason(rt: HostRuntime, s: &[u8]) {
     let i = byte(s, LITERAL, 0) as usize;
     let c = clause_at(s, FIRST);
     let tau = instance_at(s, FIRST + INSTANCE);
     let r = merging::reason_of(c, i, tau);
     let of = r.of;
-    print_merged(true, of);
-    write(b" ");
-    io::print_decimal(STDOUT_FILENO, r.own as u64);
+    print_merged(rt, true, of);
+    let own = r.own;
+    let _ = print!(rt; " {own}");
 }
 
-fn resolve(s: &[u8]) {
+fn resolve(rt: HostRuntime, s: &[u8]) {
     let j = byte(s, LITERAL, 0) as usize;
     let i = byte(s, LITERAL, 1) as usize;
     let n = instanced_at(s, FIRST);
     let r = instanced_at(s, SECOND);
     let m = merging::resolve(n, j, r, i);
     let of = m.of;
-    print_merged(m.fits, of);
+    print_merged(rt, m.fits, of);
 }
 
-fn factorize(s: &[u8]) {
+fn factorize(rt: HostRuntime, s: &[u8]) {
     let i = byte(s, LITERAL, 0) as usize;
     let j = byte(s, LITERAL, 1) as usize;
     let n = instanced_at(s, FIRST);
     let m = merging::factorize(n, i, j);
     let of = m.of;
-    print_merged(m.fits, of);
+    print_merged(rt, m.fits, of);
 }
 
 // ---- the front door
@@ -309,7 +312,7 @@ fn version_of(n: u8) -> Version {
 }
 
 // What admission makes of the clauses
-fn admitted(s: &[u8]) -> State
+fn admitted(rt: HostRuntime, s: &[u8]) -> State
     ensures { Made result }
 {
     let constants = byte(s, COUNTS, 0);
@@ -319,66 +322,81 @@ fn admitted(s: &[u8]) -> State
     let table = table_of(s);
     let version = version_of(byte(s, VERSION, 0));
     let opened = admit(version, constants, predicates, list, count, table);
-    print_answer(opened.number, opened.place);
+    print_answer(rt, opened.number, opened.place);
     opened.state
 }
 
 // A step tried: what it is answered, and the state that it hands back
-fn tried(state: State, x: Step) -> State
+fn tried(rt: HostRuntime, state: State, x: Step) -> State
     requires { Made state }
     ensures { Made result }
 {
     let a = state.step(x);
     let next = a.state;
-    write(b"step ");
-    print_answer(a.number, a.place);
-    print_state(next);
+    write(rt, b"step ");
+    print_answer(rt, a.number, a.place);
+    print_state(rt, next);
     next
 }
 
 // The state after each step; without steps that of admission
-fn run(s: &[u8]) {
+fn run(rt: HostRuntime, s: &[u8]) {
     let n = byte(s, STEP_COUNT, 0) as usize;
-    let mut state = admitted(s);
+    let mut state = admitted(rt, s);
     if n == 0 {
-        print_state(state);
+        print_state(rt, state);
         return;
     }
     for k in 0..n {
         let x = step_at(s, k);
-        let next = tried(state, x);
+        let next = tried(rt, state, x);
         state = next;
     }
 }
 
 // ---- cases
 
-fn print_case(s: &[u8]) {
-    print_name(s);
+fn print_case(rt: HostRuntime, s: &[u8]) {
+    print_name(rt, s);
     let kind = byte(s, KIND, 0);
     match kind {
-        1 => reason(s),
-        4 => resolve(s),
-        5 => factorize(s),
+        1 => reason(rt, s),
+        4 => resolve(rt, s),
+        5 => factorize(rt, s),
         _ => {
-            run(s);
+            run(rt, s);
             return;
         }
     }
-    write(b"\n");
+    write(rt, b"\n");
 }
 
-fn print_cases(s: &[u8]) {
+fn print_cases(rt: HostRuntime, s: &[u8]) {
     let mut at: usize = 0;
     while CASE <= s.len() - at {
         let next = at + CASE;
-        print_case(&s[at..next]);
+        print_case(rt, &s[at..next]);
         at = next;
     }
 }
 
-fn main() {
-    let mut cases = io::large_buffer();
-    let n = io::read_full(STDIN_FILENO, &mut cases);
-    print_cases(&cases[..n]);
+// As much as comes and the buffer has room for; a read that fails ends it.
+fn read_full(reader: &mut impl Read, buffer: &mut [u8]) -> usize
+    ensures { result ≤ length buffer.new }
+{
+    let mut at: usize = 0;
+    while at < buffer.len() {
+        match reader.read(&mut buffer[at..]) {
+            Ok(0) => break,
+            Ok(more) => at += more,
+            Err(_) => break,
+        }
+    }
+    at
+}
+
+fn main(rt: HostRuntime) {
+    let mut cases = [0u8; MOST_READ];
+    let n = read_full(&mut rt.stdin(), &mut cases);
+    print_cases(rt, &cases[..n]);
 }

@@ -344,9 +344,9 @@ module _ {A B : Type 0} where
 abbrev pub outline_there : (s : List ℕ) (past end : Cursor) (clause literal sign : ℕ) → OutlineRead
 outline_there s past end c l g = record { outline = outline_of (step_record 2 c l 0 g 0 (given [] (after past (instance s)))); at = end }
 
-pub decided_there : (s : List ℕ) (c₀ c₁ c₂ c₃ end : Cursor) (c l g : ℕ) → viewed c₁ c ≡ after c₀ (byte s) → viewed c₂ l ≡ after c₁ (byte s) → viewed c₃ g ≡ after c₂ (within 0 1 s)
-    → (end ≡ reached (after c₃ (instance s))) × (length (given [] (after c₃ (instance s))) ≤ most_variables) → Decided s c₀ (outline_there s c₃ end c l g)
-decided_there s c₀ c₁ c₂ c₃ end c l g e₁ e₂ e₃ (ends, few) =
+pub decided_there : (s : List ℕ) (c₀ c₁ c₂ c₃ past : Cursor) (c l g : ℕ) → viewed c₁ c ≡ after c₀ (byte s) → viewed c₂ l ≡ after c₁ (byte s) → viewed c₃ g ≡ after c₂ (within 0 1 s)
+    → (past ≡ reached (after c₃ (instance s))) × (length (given [] (after c₃ (instance s))) ≤ most_variables) → Decided s c₀ (outline_there s c₃ past c l g)
+decided_there s c₀ c₁ c₂ c₃ past c l g e₁ e₂ e₃ (ends, few) =
     let τ = given [] (after c₃ (instance s)) in
     let same : take (length τ) (exactly most_variables 0 τ) ≡ τ = take_exactly 0 most_variables τ few in
     record {

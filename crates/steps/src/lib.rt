@@ -1,4 +1,6 @@
 // Reading the steps of a run file, one at a time, and judging the whole file before the first of them is tried.
+#![tactic(auto)]
+
 ghost use Rattle.std.specs.Prelude.{[], ◌≡◌, ◌≤◌, length, take};
 ghost use Rattle.basis.specs.Limits.{most_brought, most_variables};
 ghost use Rattle.runfile.specs.Readers.{◌then◌, give, times};
@@ -12,14 +14,14 @@ use fields::{Byte, Cursor, byte_at, count_at, rule_at, within_at};
 use header::{HeaderRead, no_header, read_header};
 
 // An atom that a Decide brings, and the cursor after it
-#[derive(Drop)]
+#[derive(Clone, Copy)]
 struct SourceRead {
     source: Source,
     at: Cursor,
 }
 
 // Such atoms, and the cursor after them; slots past the count are blank.
-#[derive(Drop)]
+#[derive(Clone, Copy)]
 struct SourcesRead {
     count: u8,
     atoms: [Source; MOST_BROUGHT],
@@ -27,7 +29,7 @@ struct SourcesRead {
 }
 
 // An instance and the cursor after it; slots past the count are 0.
-#[derive(Drop)]
+#[derive(Clone, Copy)]
 struct InstanceRead {
     count: u8,
     instance: [u8; MOST_VARIABLES],
@@ -35,7 +37,7 @@ struct InstanceRead {
 }
 
 // A step but for the atoms that it brings, which are counted: rule number and arguments; those that the rule has no use for are 0.
-#[derive(Drop)]
+#[derive(Clone, Copy)]
 pub struct Outline {
     pub rule: u8,
     pub clause: u8,
@@ -49,7 +51,7 @@ pub struct Outline {
 }
 
 // A step so read, and the cursor after the whole of it; a blank one where it is refused
-#[derive(Drop)]
+#[derive(Clone, Copy)]
 pub struct OutlineRead {
     pub outline: Outline,
     pub at: Cursor,

@@ -215,11 +215,11 @@ module _ {numbered : Bool} {s d d' : List ℕ} {version : Version} {n cursor at 
       pub handed : Handed run q y
       handed = handed_as is (S.state, S.run_of, looks)
 
-      pub told-looked : {a b : Stepped} → a ≡ b → Answered run q y b → Told S.state (step_of x) a
-      told-looked p answered = answered_as is p answered S.state S.run_of looks
+      pub told_looked : {a b : Stepped} → a ≡ b → Answered run q y b → Told S.state (step_of x) a
+      told_looked p answered = answered_as is p answered S.state S.run_of looks
 
-      pub told-alone : {a b : Stepped} → a ≡ b → Answers run y b → Told S.state (step_of x) a
-      told-alone p answers = answers_as is p answers S.state S.run_of looks
+      pub told_alone : {a b : Stepped} → a ≡ b → Answers run y b → Told S.state (step_of x) a
+      told_alone p answers = answers_as is p answers S.state S.run_of looks
 
     -- The Decide y was read of it, and the last turn over its atoms is over.
     module _ (y : Step) (same : y ≡ x) (rule : o.rule ≡ 2) {m i : ℕ} (count : m ≡ count_looked version y) (over : m ≤ i) {named : Named} (names : Finds run table y i named) where
@@ -235,8 +235,8 @@ module _ {numbered : Bool} {s d d' : List ℕ} {version : Version} {n cursor at 
       named-is : named ≡ named_at S.state (decide_of y)
       named-is = names S.state S.run_of S.table_is ∙ named_last S.state y (count ∙ ap (λ (v : Version). count_looked v y) S.of_version) over ∙ ap (named_at S.state) decides
 
-      pub handed-named : HandedNamed run q named (decide_of y)
-      handed-named = (S.state, S.run_of, looks-so, named-is)
+      pub handed_named : HandedNamed run q named (decide_of y)
+      handed_named = (S.state, S.run_of, looks-so, named-is)
 
       pub told_named : {a b : Stepped} → a ≡ b → AnsweredNamed run q named (decide_of y) b → Told S.state (step_of x) a
       told_named p answered = transport⁻¹ (λ i. Told S.state (is i) (p i)) (answered S.state S.run_of looks-so named-is)

@@ -1,4 +1,6 @@
 // The steps of a run file that is in order, tried one after the other, and their lines written into a lent buffer.
+#![tactic(auto)]
+
 ghost use Rattle.std.specs.Prelude.{◌≡◌, ◌+◌, ◌≤◌, length};
 ghost use Rattle.basis.specs.Limits.{most_constants};
 ghost use Rattle.fields.specs.declared.Cursor.TheVariants as C;
@@ -21,7 +23,7 @@ use state::new_run;
 use steps::{decision_at, outline_at};
 
 // What trying the steps answers: how many bytes were written, and the number and place of the last answer.
-#[derive(Drop)]
+#[derive(Clone, Copy)]
 pub struct Ended {
     pub count: usize,
     pub number: u8,

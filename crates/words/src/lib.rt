@@ -1,4 +1,6 @@
 // The words of the command line: what they ask for, and the line that names an unknown one.
+#![tactic(auto)]
+
 ghost use Rattle.std.specs.Prelude.{◌≡◌, ◌≤◌, length};
 ghost use Rattle.lists.specs.Lists.{same_list};
 ghost use Rattle.text.specs.Text.{Wrote};
@@ -7,14 +9,14 @@ ghost use Rattle.words.specs.Words.{known, most_unknown, no_words, unknown_line,
 use text::{put_byte, put_decimal, put_word};
 
 // The programs that take words
-#[derive(Drop)]
+#[derive(Clone, Copy)]
 pub enum Program {
     Judge,
     Inspect,
 }
 
 // What the words given so far ask for; and the position of the first that the program does not know, from 1, or 0
-#[derive(Drop)]
+#[derive(Clone, Copy)]
 pub struct Words {
     pub numbers: bool,
     pub unknown: usize,

@@ -1,0 +1,2 @@
+-- Counts of bytes at a buffer's front.
+pub mod Counts
