@@ -75,7 +75,7 @@ extern "C" {
 #define DRF_MOST_TABLE 1488
 
 /* The stack of a thread that calls, in bytes; what is lent is not in it. */
-#define DRF_STACK 147456
+#define DRF_STACK 180224
 
 uint64_t drf_judge(const uint8_t *file, size_t file_len, uint8_t *out, size_t out_len, uint64_t *ends, size_t ends_len);
 uint64_t drf_inspect(const uint8_t *file, size_t file_len, uint8_t *out, size_t out_len, uint64_t *ends, size_t ends_len);

@@ -37,7 +37,7 @@ pub const MOST_TABLE: usize = 1_488;
 
 /// The stack of a thread that calls, in bytes; what is lent is not in it. What a thread has where nothing is said is enough:
 /// `std::thread` gives 2 MiB.
-pub const STACK: usize = 147_456;
+pub const STACK: usize = 180_224;
 
 /// The refusal numbers. `docs/REFUSALS.md` says when each is given.
 pub mod refusal {
@@ -198,7 +198,7 @@ fn told<'a>(exported: Exported, file: &[u8], out: &'a mut [u8]) -> Result<Told<'
 
 /// The verdict of a text that was written. It is no part of what is proved, and rests on the form of the text, which is: `w ++ after`, with a
 /// line in w for each step tried, or a bad file's only line (`Printed` in crates/listing/specs/Listing.antt). A step's line begins with its
-/// number in decimal digits, and beneath it can stand a line that begins with `numbers` (`numbersLine` in
+/// number in decimal digits, and beneath it can stand a line that begins with `numbers` (`numbers_line` in
 /// crates/inspection/specs/NumbersText.antt); `after` begins with the listing's last line, which is one of three words, for `inspect` and
 /// `inspect_numbers` too (`inspected` in crates/judging/specs/Judging.antt). So the first line that begins with neither is that last line or a
 /// bad file's, and the lines of the final state, which come after it, are not reached.

@@ -63,7 +63,7 @@ fn tables() {
     assert_eq!(signed.get("MOST_C"), Some(&most_c), "MOST_C in crates/basis");
     assert_eq!(header.get("MOST_C"), Some(&most_c), "MOST_C in include/drf.h");
     assert_eq!(header.get("MOST_TABLE"), Some(&drf::MOST_TABLE), "MOST_TABLE in include/drf.h");
-    let bound = "mostTableBytes = mostRows * (3 + 4 * 6 + 4)";
+    let bound = "most_table_bytes = most_rows * (3 + 4 * 6 + 4)";
     let claims = text("crates/lookup/specs/Claims.antt");
     assert!(claims.lines().any(|line| line == bound), "crates/lookup has another bound");
     assert_eq!(drf::MOST_TABLE, drf::MOST_ROWS * (3 + 4 * 6 + 4));

@@ -29,8 +29,14 @@ pub fn stopped() -> Vec<u8> {
     [&first[..STEPS], &[3, 0], propagate, conflict, conflict].concat()
 }
 
-/// A folder of a test's own
+/// A folder of a test's own, which goes with it: the gate takes no link anywhere in the project.
 pub struct Folder(pub PathBuf);
+
+impl Drop for Folder {
+    fn drop(&mut self) {
+        let _ = fs::remove_dir_all(&self.0);
+    }
+}
 
 impl Folder {
     pub fn new(name: &str) -> Folder {
