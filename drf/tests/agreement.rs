@@ -70,6 +70,13 @@ fn tables() {
 }
 
 /// One byte more is read than a valid file can have.
+/// The names that a source imports from a crate
+fn imported<'a>(source: &'a str, from: &str) -> Vec<&'a str> {
+    let list = source.split_once(&format!("\nuse {from}::{{")).map_or("", |(_, list)| list);
+    let names = list.split_once("};").map_or("", |(names, _)| names);
+    names.split(',').map(str::trim).collect()
+}
+
 #[test]
 fn bytes_read() {
     let header = defined(&text("include/drf.h"));
@@ -78,15 +85,35 @@ fn bytes_read() {
     assert_eq!(steps.get("MOST_FILE"), Some(&drf::MOST_FILE), "crates/steps");
     assert_eq!(header.get("MOST_READ"), Some(&drf::MOST_READ), "include/drf.h");
     assert_eq!(drf::MOST_READ, drf::MOST_FILE + 1);
+    let judging = constants(&text("crates/judging/src/lib.rt"), "usize");
+    assert_eq!(judging.get("MOST_READ"), Some(&drf::MOST_READ), "crates/judging");
     for program in ["crates/judge/src/main.rt", "crates/inspect/src/main.rt"] {
-        let read = constants(&text(program), "usize");
-        assert_eq!(read.get("MOST_READ"), Some(&drf::MOST_READ), "{program}");
+        let source = text(program);
+        assert!(source.contains("[0u8; MOST_READ]"), "{program} reads another number");
+        assert!(imported(&source, "judging").contains(&"MOST_READ"), "{program} imports no number");
+        assert!(!source.contains("const MOST_READ"), "{program} has a number of its own");
     }
+}
+
+/// The name of a constant for a variant's: TooLong is TOO_LONG
+fn in_capitals(variant: &str) -> String {
+    let letters = variant.char_indices().flat_map(|(at, letter)| {
+        let between = (at > 0 && letter.is_uppercase()).then_some('_');
+        between.into_iter().chain([letter.to_ascii_uppercase()])
+    });
+    letters.collect()
+}
+
+/// The numbers that `From` gives the refusals
+fn numbered(source: &str) -> BTreeMap<String, usize> {
+    let arms =
+        source.lines().filter_map(|line| line.trim().strip_prefix("Refusal::")?.split_once(" => "));
+    arms.filter_map(|(variant, digits)| Some((in_capitals(variant), number(digits)?))).collect()
 }
 
 #[test]
 fn refusals() {
-    let mut proved = constants(&text("crates/basis/src/lib.rt"), "u8");
+    let mut proved = numbered(&text("crates/basis/src/lib.rt"));
     proved.insert("ACCEPTED".to_string(), 0);
     assert_eq!(proved.len(), 23);
     assert_eq!(constants(&text("drf/src/lib.rs"), "u8"), proved, "drf/src/lib.rs");

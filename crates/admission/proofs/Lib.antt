@@ -2,3 +2,4 @@
 pub mod Judging
 pub mod Tables
 pub mod Says
+pub mod Once

@@ -1,141 +1,67 @@
-// Admission: a clause record judged against predicates and arities, and a whole table of them. Refusals 3 to 6 in the file's order.
+// Admission: a clause record judged against arities, and a whole table of them. Refusals 3 to 6 in the file's order.
 #![tactic(auto)]
 
-ghost use Rattle.std.specs.Prelude.{◌≡◌, ◌||◌, ◌&&◌, cond, [], ◌-◌, ◌≤◌, eqb, leb, ltb};
-ghost use Rattle.basis.specs.Limits.{most_atoms, most_literals, most_input, most_predicates, most_arguments};
-ghost use Rattle.basis.specs.Atoms.{no_atom};
+ghost use Rattle.std.specs.Prelude.{◌≡◌, ◌||◌, ◌&&◌, ◌≤◌, eqb, leb, length, map};
+ghost use Rattle.basis.specs.Limits.{most_arguments, most_input};
 ghost use Rattle.lists.specs.Lists.{any_of, all_of, up_from};
-ghost use Rattle.lists.specs.Arrays.{exactly};
 ghost use Rattle.calculus.specs.Checks.{between};
-ghost use Rattle.calculus.specs.Clauses.{no_literal, no_clause};
 ghost use Rattle.calculus.specs.Merging.{occurs_in};
 ghost use Rattle.calculus.specs.Class.{arity_of, proper_atom, proper_literal, bounded, differences_bounded, clause_refusal};
-ghost use Rattle.calculus.specs.Admission.{clauses_refusal};
+ghost use Rattle.calculus.specs.Admission.{clauses_refusal, counts_fit};
 ghost use Rattle.clauses.specs.Records.{clause_of, packed, Counted};
-ghost use Rattle.admission.specs.Offered.{offered_arities, cleaned, offered, offered_table, packed_input, table_fits, clause_answer, answered, table_answer};
+ghost use Rattle.admission.specs.Offered.{answered, clause_answer, cleaned, handed, offered, offered_table, table_answer, told, told_at};
 
 use basis::{
-    ABOVE_LIMIT, Atom, LACKS_BOUND, Literal, MOST_ARGUMENTS, MOST_ATOMS, MOST_C, MOST_CONSTANTS,
-    MOST_INPUT, MOST_LITERALS, MOST_PREDICATES, OCCURS_NOWHERE, OUT_OF_RANGE,
+    Atom, Literal, MOST_ARGUMENTS, MOST_C, MOST_CONSTANTS, MOST_INPUT, MOST_LITERALS,
+    MOST_PREDICATES, Refusal, Refused,
 };
-use clauses::{Clause, atoms_of, counted, literals_of, no_atom, no_clause, no_literal, occurs};
-
-// The refusal's number, 0 for none, and the clause as it was read; a refused one is handed back blank.
-#[derive(Clone, Copy)]
-pub struct ClauseAnswer {
-    pub number: u8,
-    pub clause: Clause,
-}
-
-// The refusal's number, 0 for none, its place, and the table as it was read; a refused one is handed back blank.
-#[derive(Clone, Copy)]
-pub struct TableAnswer {
-    pub number: u8,
-    pub place: u8,
-    pub clauses: [Clause; MOST_INPUT],
-}
+use clauses::{Clause, counted, no_atom, no_clause, no_literal, occurs};
 
 // ---- reading a record
 
 // The arity of predicate p; 0 where there is none
-pub fn arity_of(predicates: u8, arities: [u8; MOST_PREDICATES], p: u8) -> u8
-    ensures { result ≡ arity_of (offered_arities predicates arities) p }
+pub fn arity_of(arities: &[u8], p: u8) -> u8
+    ensures { result ≡ arity_of arities.now p }
 {
-    let k = predicate_slot(p);
-    if predicates <= k {
-        return 0;
-    }
-    let i = k as usize;
-    if i < MOST_PREDICATES {
-        return arities[i];
-    }
-    0
+    let place = usize::from(p).saturating_sub(1);
+    arities.get(place).copied().unwrap_or(0)
 }
 
-// Where the arity of predicate p stands
-fn predicate_slot(p: u8) -> u8
-    ensures { result ≡ p - 1 }
+fn clean_literal(arities: &[u8], l: Literal) -> Literal
+    ensures { result ≡ cleaned arities.now l }
 {
-    if p == 0 {
-        return 0;
+    let n = arity_of(arities, l.predicate);
+    Literal {
+        x: if 0 < n { l.x } else { 0 },
+        y: if 1 < n { l.y } else { 0 },
+        z: if 2 < n { l.z } else { 0 },
+        ..l
     }
-    p - 1
 }
 
-// An argument x at place k, where the arity n reaches it
-fn argument(k: u8, n: u8, x: u8) -> u8
-    ensures { result ≡ cond (ltb k n) x 0 }
-{
-    if k < n {
-        return x;
-    }
-    0
-}
-
-fn clean_literal(predicates: u8, arities: [u8; MOST_PREDICATES], l: Literal) -> Literal
-    ensures { result ≡ cleaned (offered_arities predicates arities) l }
-{
-    let n = arity_of(predicates, arities, l.predicate);
-    let x = argument(0, n, l.x);
-    let y = argument(1, n, l.y);
-    let z = argument(2, n, l.z);
-    let mut r = l;
-    r.x = x;
-    r.y = y;
-    r.z = z;
-    r
-}
-
+// Each literal blank past its arity
 fn clean_literals(
-    predicates: u8,
-    arities: [u8; MOST_PREDICATES],
-    c: Clause,
+    arities: &[u8],
+    mut literals: [Literal; MOST_LITERALS],
 ) -> [Literal; MOST_LITERALS]
-    requires { c.literalcount ≤ most_literals }
-    ensures { result ≡ exactly most_literals no_literal (offered (offered_arities predicates arities) c).literals }
+    ensures { result ≡ map (cleaned arities.now) literals }
 {
-    let n = literals_of(c);
-    let blank = no_literal();
-    let mut out = [blank; MOST_LITERALS];
-    let mut j: usize = 0;
-    while j < n {
-        let l = c.literals[j];
-        let m = clean_literal(predicates, arities, l);
-        out[j] = m;
-        j += 1;
+    for l in literals.iter_mut() {
+        *l = clean_literal(arities, *l);
     }
-    out
+    literals
 }
 
-fn clean_atoms(c: Clause) -> [Atom; MOST_ATOMS]
-    requires { c.atomcount ≤ most_atoms }
-    ensures { result ≡ exactly most_atoms no_atom (exactly c.atomcount no_atom c.atoms) }
-{
-    let n = atoms_of(c);
-    let blank = no_atom();
-    let mut out = [blank; MOST_ATOMS];
-    let mut j: usize = 0;
-    while j < n {
-        let a = c.atoms[j];
-        out[j] = a;
-        j += 1;
-    }
-    out
-}
-
-fn clean(predicates: u8, arities: [u8; MOST_PREDICATES], c: Clause) -> Clause
+// The clause as it is read: blank past its counts, and past its literals' arities
+fn clean(arities: &[u8], c: Clause) -> Clause
     requires { Counted c }
-    ensures { result ≡ packed (offered (offered_arities predicates arities) c) }
+    ensures { result ≡ packed (offered arities.now c) }
 {
-    let atoms = clean_atoms(c);
-    let literals = clean_literals(predicates, arities, c);
-    Clause {
-        variables: c.variables,
-        atomcount: c.atomcount,
-        literalcount: c.literalcount,
-        atoms: atoms,
-        literals: literals,
-    }
+    let mut read = c;
+    read.atoms[usize::from(c.atomcount)..].fill(no_atom());
+    read.literals = clean_literals(arities, c.literals);
+    read.literals[usize::from(c.literalcount)..].fill(no_literal());
+    read
 }
 
 // ---- refusal 4
@@ -143,82 +69,46 @@ fn clean(predicates: u8, arities: [u8; MOST_PREDICATES], c: Clause) -> Clause
 fn proper_atom(v: u8, a: Atom) -> bool
     ensures { result ≡ proper_atom v a }
 {
-    if v < a.p {
-        return false;
-    }
-    if v < a.q {
-        return false;
-    }
-    let s = a.p as usize + a.q as usize;
-    if s < 1 {
-        return false;
-    }
-    if a.c < -MOST_C {
-        return false;
-    }
-    a.c <= MOST_C
+    a.p <= v && a.q <= v && 1 <= u16::from(a.p) + u16::from(a.q) && -MOST_C <= a.c && a.c <= MOST_C
 }
 
-fn proper_atoms(c: Clause) -> bool
-    ensures { result ≡ all_of (proper_atom c.variables) (clause_of c).atoms }
+// Whether each argument is a variable
+fn are_variables(v: u8, arguments: &[u8]) -> bool
+    ensures { result ≡ all_of (between 1 v) arguments.now }
 {
-    let n = atoms_of(c);
-    let mut j: usize = 0;
-    while j < n {
-        let a = c.atoms[j];
-        if !proper_atom(c.variables, a) {
-            return false;
-        }
-        j += 1;
-    }
-    true
+    arguments.iter().all(|x| 1 <= *x && *x <= v)
 }
 
-// The argument x at place k: a variable where the arity n reaches it, else 0
-fn proper_argument(k: u8, n: u8, v: u8, x: u8) -> bool
-    ensures { result ≡ cond (ltb k n) (between 1 v x) (eqb 0 x) }
+// Whether nothing stands where no argument does
+fn are_blank(slots: &[u8]) -> bool
+    ensures { result ≡ all_of (eqb 0) slots.now }
 {
-    if k < n {
-        if x < 1 {
-            return false;
-        }
-        return x <= v;
-    }
-    x == 0
+    slots.iter().all(|x| 0 == *x)
 }
 
-fn proper_literal(predicates: u8, arities: [u8; MOST_PREDICATES], v: u8, l: Literal) -> bool
-    ensures { result ≡ proper_literal (offered_arities predicates arities) v l }
+fn proper_literal(arities: &[u8], v: u8, l: Literal) -> bool
+    ensures { result ≡ proper_literal arities.now v l }
 {
-    if l.predicate < 1 {
-        return false;
-    }
-    if predicates < l.predicate {
-        return false;
-    }
-    let n = arity_of(predicates, arities, l.predicate);
-    if !proper_argument(0, n, v, l.x) {
-        return false;
-    }
-    if !proper_argument(1, n, v, l.y) {
-        return false;
-    }
-    proper_argument(2, n, v, l.z)
+    let arguments = [l.x, l.y, l.z];
+    let n = usize::from(arity_of(arities, l.predicate)).min(arguments.len());
+    1 <= l.predicate
+        && usize::from(l.predicate) <= arities.len()
+        && are_variables(v, &arguments[..n])
+        && are_blank(&arguments[n..])
 }
 
-fn proper_literals(predicates: u8, arities: [u8; MOST_PREDICATES], c: Clause) -> bool
-    ensures { result ≡ all_of (proper_literal (offered_arities predicates arities) c.variables) (clause_of c).literals }
+fn proper_atoms(c: &Clause) -> bool
+    ensures { result ≡ all_of (proper_atom c.now.variables) (clause_of c.now).atoms }
 {
-    let n = literals_of(c);
-    let mut j: usize = 0;
-    while j < n {
-        let l = c.literals[j];
-        if !proper_literal(predicates, arities, c.variables, l) {
-            return false;
-        }
-        j += 1;
-    }
-    true
+    c.atoms().iter().all(|a| proper_atom(c.variables, *a))
+}
+
+fn proper_literals(arities: &[u8], c: &Clause) -> bool
+    ensures { result ≡ all_of (proper_literal arities.now c.now.variables) (clause_of c.now).literals }
+{
+    c.literals()
+        .iter()
+        .all(|l| proper_literal(arities, c.variables, *l))
 }
 
 // ---- refusal 5
@@ -226,228 +116,114 @@ fn proper_literals(predicates: u8, arities: [u8; MOST_PREDICATES], c: Clause) ->
 fn all_occur(c: Clause) -> bool
     ensures { result ≡ all_of (occurs_in (clause_of c).atoms (clause_of c).literals) (up_from 1 c.variables) }
 {
-    let v = c.variables;
-    let mut x: u8 = 0;
-    while x < v {
-        let y = x + 1;
-        if !occurs(c, y) {
-            return false;
-        }
-        x = y;
-    }
-    true
+    // Not `1..=v`: that what holds of each number of such a range is `all_of` of them did not prove.
+    (0..c.variables).all(|x| occurs(c, x + 1))
 }
 
 // ---- refusal 6
 
-fn is_between(a: Atom, p: u8, q: u8) -> bool
-    ensures { result ≡ (eqb a.p p && eqb a.q q) }
+// Whether one of the atoms has these places
+fn has_between(atoms: &[Atom], p: u8, q: u8) -> bool
+    ensures { result ≡ any_of (λ a. eqb a.p p && eqb a.q q) atoms.now }
 {
-    if a.p != p {
-        return false;
-    }
-    a.q == q
-}
-
-// Whether the clause has an atom with these places
-fn has_between(c: Clause, p: u8, q: u8) -> bool
-    ensures { result ≡ any_of (λ a. eqb a.p p && eqb a.q q) (clause_of c).atoms }
-{
-    let n = atoms_of(c);
-    let mut j: usize = 0;
-    while j < n {
-        let a = c.atoms[j];
-        if is_between(a, p, q) {
-            return true;
-        }
-        j += 1;
-    }
-    false
+    atoms.iter().any(|a| a.p == p && a.q == q)
 }
 
 // "an atom bounding it above (x, 0, c) and one bounding it below (0, x, c)"
-fn is_bounded(c: Clause, x: u8) -> bool
-    ensures { result ≡ bounded (clause_of c).atoms x }
+fn is_bounded(atoms: &[Atom], x: u8) -> bool
+    ensures { result ≡ bounded atoms.now x }
 {
-    if !has_between(c, x, 0) {
-        return false;
-    }
-    has_between(c, 0, x)
+    has_between(atoms, x, 0) && has_between(atoms, 0, x)
 }
 
-// Where the atom has two variables, both are bounded.
-fn difference_bounded(c: Clause, a: Atom) -> bool
-    ensures { result ≡ (eqb a.p 0 || (eqb a.q 0 || (bounded (clause_of c).atoms a.p && bounded (clause_of c).atoms a.q))) }
+// Where an atom has two variables, both are bounded.
+fn differences_bounded(atoms: &[Atom]) -> bool
+    ensures { result ≡ differences_bounded atoms.now }
 {
-    if a.p == 0 {
-        return true;
-    }
-    if a.q == 0 {
-        return true;
-    }
-    if !is_bounded(c, a.p) {
-        return false;
-    }
-    is_bounded(c, a.q)
-}
-
-fn differences_bounded(c: Clause) -> bool
-    ensures { result ≡ differences_bounded (clause_of c).atoms }
-{
-    let n = atoms_of(c);
-    let mut j: usize = 0;
-    while j < n {
-        let a = c.atoms[j];
-        if !difference_bounded(c, a) {
-            return false;
-        }
-        j += 1;
-    }
-    true
+    atoms.iter().all(|a| a.p == 0 || a.q == 0 || (is_bounded(atoms, a.p) && is_bounded(atoms, a.q)))
 }
 
 // ---- one clause
 
-// The refusal of a clause as it was read; its counts are within the limits already.
-fn refusal_of(predicates: u8, arities: [u8; MOST_PREDICATES], c: Clause) -> u8
+// A clause as it was read, handed back where it is not refused; its counts are within the limits already.
+fn judge(arities: &[u8], c: Clause) -> Result<Clause, Refusal>
     requires { Counted c }
-    ensures { result ≡ clause_refusal (offered_arities predicates arities) (clause_of c) }
+    ensures { told result ≡ handed c (clause_refusal arities.now (clause_of c)) }
 {
-    if !proper_atoms(c) {
-        return OUT_OF_RANGE;
-    }
-    if !proper_literals(predicates, arities, c) {
-        return OUT_OF_RANGE;
+    if !(proper_atoms(&c) && proper_literals(arities, &c)) {
+        return Err(Refusal::OutOfRange);
     }
     if !all_occur(c) {
-        return OCCURS_NOWHERE;
+        return Err(Refusal::OccursNowhere);
     }
-    if !differences_bounded(c) {
-        return LACKS_BOUND;
+    if !differences_bounded(c.atoms()) {
+        return Err(Refusal::LacksBound);
     }
-    0
+    Ok(c)
 }
 
-fn refused_clause(number: u8) -> ClauseAnswer
-    ensures { result ≡ record { number = number; clause = packed no_clause } }
-{
-    let clause = no_clause();
-    ClauseAnswer {
-        number: number,
-        clause: clause,
-    }
-}
-
-// A clause record judged against predicates and arities
-pub fn admit_clause(predicates: u8, arities: [u8; MOST_PREDICATES], c: Clause) -> ClauseAnswer
-    ensures { result ≡ clause_answer (offered_arities predicates arities) c }
+// A clause record judged against arities, and handed back as it was read
+pub fn admit_clause(arities: &[u8], c: Clause) -> Result<Clause, Refusal>
+    ensures { told result ≡ clause_answer arities.now c }
 {
     if !counted(c) {
-        return refused_clause(ABOVE_LIMIT);
+        return Err(Refusal::AboveLimit);
     }
-    let d = clean(predicates, arities, c);
-    let number = refusal_of(predicates, arities, d);
-    if number != 0 {
-        return refused_clause(number);
-    }
-    ClauseAnswer {
-        number: 0,
-        clause: d,
-    }
+    judge(arities, clean(arities, c))
 }
 
 // ---- a table of clauses
 
-fn small_arities(predicates: u8, arities: [u8; MOST_PREDICATES]) -> bool
-    requires { predicates ≤ most_predicates }
-    ensures { result ≡ all_of (λ n. leb n most_arguments) (offered_arities predicates arities) }
+fn small_arities(arities: &[u8]) -> bool
+    ensures { result ≡ all_of (λ n. leb n most_arguments) arities.now }
 {
-    let n = predicates as usize;
-    let mut j: usize = 0;
-    while j < n {
-        if MOST_ARGUMENTS < arities[j] as usize {
-            return false;
-        }
-        j += 1;
-    }
-    true
+    arities.iter().all(|n| usize::from(*n) <= MOST_ARGUMENTS)
 }
 
-fn counts_fit(constants: u8, predicates: u8, arities: [u8; MOST_PREDICATES], count: u8) -> bool
-    ensures { result ≡ table_fits constants predicates arities count }
+fn counts_fit(constants: u8, arities: &[u8], clauses: &[Clause]) -> bool
+    ensures { result ≡ counts_fit constants arities.now (offered_table arities.now clauses.now) }
 {
-    if MOST_CONSTANTS < constants as usize {
-        return false;
-    }
-    if MOST_PREDICATES < predicates as usize {
-        return false;
-    }
-    if !small_arities(predicates, arities) {
-        return false;
-    }
-    count as usize <= MOST_INPUT
-}
-
-fn no_table() -> [Clause; MOST_INPUT]
-    ensures { result ≡ packed_input [] }
-{
-    let c = no_clause();
-    [c; MOST_INPUT]
-}
-
-fn refused_table(number: u8, place: u8) -> TableAnswer
-    ensures { result ≡ record { number = number; place = place; clauses = packed_input [] } }
-{
-    let clauses = no_table();
-    TableAnswer {
-        number: number,
-        place: place,
-        clauses: clauses,
-    }
+    usize::from(constants) <= MOST_CONSTANTS
+        && arities.len() <= MOST_PREDICATES
+        && small_arities(arities)
+        && clauses.len() <= MOST_INPUT
 }
 
 // The clauses one after the other, up to the first that is refused
-fn admit_clauses(
-    predicates: u8,
-    arities: [u8; MOST_PREDICATES],
-    count: u8,
-    clauses: [Clause; MOST_INPUT],
-) -> TableAnswer
-    requires { count ≤ most_input }
-    ensures { result ≡ answered (clauses_refusal (offered_arities predicates arities) 1 (offered_table (offered_arities predicates arities) count clauses)) (offered_table (offered_arities predicates arities) count clauses) }
+fn admit_clauses(arities: &[u8], clauses: &[Clause]) -> Result<[Clause; MOST_INPUT], Refused<u8>>
+    requires { length clauses.now ≤ most_input }
+    ensures { told_at result ≡ answered (clauses_refusal arities.now 1 (offered_table arities.now clauses.now)) (offered_table arities.now clauses.now) }
 {
-    let n = count as usize;
-    let mut out = no_table();
-    let mut j: usize = 0;
-    while j < n {
-        let c = clauses[j];
-        let a = admit_clause(predicates, arities, c);
-        if a.number != 0 {
-            return refused_table(a.number, j as u8 + 1);
+    let mut table = [no_clause(); MOST_INPUT];
+    for (j, c) in clauses.iter().enumerate() {
+        // No `map_err` and `?`: the refusal that leaves the loop by them did not prove.
+        match admit_clause(arities, *c) {
+            Ok(read) => table[j] = read,
+            Err(refusal) => {
+                return Err(Refused {
+                    refusal,
+                    place: j as u8 + 1,
+                });
+            }
         }
-        let d = a.clause;
-        out[j] = d;
-        j += 1;
     }
-    TableAnswer {
-        number: 0,
-        place: 0,
-        clauses: out,
-    }
+    Ok(table)
 }
 
-// "The place is then the number of the first bad clause, or 0 .. for counts and arities, which are judged first."
+// "The place is then the number of the first bad clause, or 0 .. for counts and arities, which are judged first." The table is handed back as it was
+// read, and is blank past the clauses.
 pub fn admit(
     constants: u8,
-    predicates: u8,
-    arities: [u8; MOST_PREDICATES],
-    count: u8,
-    clauses: [Clause; MOST_INPUT],
-) -> TableAnswer
-    ensures { result ≡ table_answer constants (offered_arities predicates arities) (offered_table (offered_arities predicates arities) count clauses) }
+    arities: &[u8],
+    clauses: &[Clause],
+) -> Result<[Clause; MOST_INPUT], Refused<u8>>
+    ensures { told_at result ≡ table_answer constants arities.now (offered_table arities.now clauses.now) }
 {
-    if !counts_fit(constants, predicates, arities, count) {
-        return refused_table(ABOVE_LIMIT, 0);
+    if !counts_fit(constants, arities, clauses) {
+        return Err(Refused {
+            refusal: Refusal::AboveLimit,
+            place: 0,
+        });
     }
-    admit_clauses(predicates, arities, count, clauses)
+    admit_clauses(arities, clauses)
 }

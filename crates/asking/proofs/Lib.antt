@@ -1,6 +1,6 @@
 -- Why what is asked is what the calculus asks.
-pub mod Literals
 pub mod Steps
 pub mod Sources
 pub mod Brought
 pub mod Finding
+pub mod Trying

@@ -3,7 +3,7 @@ use mathlib.Core.Path.{◌∙◌, ◌≡◌, ap, refl, sym}
 use mathlib.Core.List.{List, [], ◌∷◌, map}
 use mathlib.Core.Bool.{Bool, ◌&&◌, cond, false, true}
 use Prim.Native.Nat.{◌<◌, ◌≤◌, suc, zero, ℕ}
-use native.Mathlib.Decide.{dec_le, dec_lt}
+use native.Mathlib.Decide.{dec_lt}
 use native.Mathlib.Omega.{arith}
 use lib.Dec.{leb}
 use lib.ListN.{get_or-eq_default, length, length-map, length-take, take}
@@ -26,7 +26,6 @@ use Rattle.asking.specs.Looking.{right_in}
 use Rattle.asking.specs.Steps.{no_source, source_of, sources_in}
 use Rattle.asking.specs.declared.Source.{Source}
 use Rattle.asking.specs.declared.Step.{Step}
-use Rattle.asking.proofs.Literals.{no_literal_lem}
 
 -- What a read past the end of an array of sources would give
 abbrev pub past_source : Source
@@ -72,21 +71,12 @@ under_exactly n τ (suc x) = elim (dec_lt x n) [
 ]
 
 module _ (k : Clause) (z : Source) where
-  -- It has no such atom ..
-  pub wrongly : (constants held : ℕ) → between 1 (length (clause_of k).atoms) z.number ≡ false → right_in constants held k z ≡ false
-  wrongly constants held e = sym (no_literal_lem (leb z.count most_variables) (between 1 held z.clause) (instance_fits constants (clause_of k) (source_of z).instance) e)
-
-  -- .. or it is the instance that is asked about.
-  pub rightly : (constants held : ℕ) → length z.instance ≡ most_variables → between 1 (length (clause_of k).atoms) z.number ≡ true
-      → right_in constants held k z ≡ (leb z.count most_variables && (between 1 held z.clause && instance_fits constants (clause_of k) (take z.count z.instance)))
-  rightly constants held long e = ap (λ (b : Bool). leb z.count most_variables && (between 1 held z.clause && (b && instance_fits constants (clause_of k) (source_of z).instance))) e ∙ short (dec_le z.count most_variables)
-    where
-      P : List ℕ → Bool
-      P τ = between 1 held z.clause && instance_fits constants (clause_of k) τ
-
-      short : Dec (z.count ≤ most_variables) → (leb z.count most_variables && P (source_of z).instance) ≡ (leb z.count most_variables && P (take z.count z.instance))
-      short (yes h) = ap (λ (τ : List ℕ). leb z.count most_variables && P τ) (exactly_take 0 z.count z.instance (omega arith))
-      short (no h) = rw (lt-leb z.count most_variables (omega arith))
+  -- With such an atom, and no more constants than there is room for, it is the instance that is asked about.
+  pub rightly : (constants held : ℕ) → length z.instance ≡ most_variables → between 1 (length (clause_of k).atoms) z.number ≡ true → z.count ≤ most_variables → {τ : List ℕ} → τ ≡ take z.count z.instance
+      → right_in constants held k z ≡ (leb (length τ) most_variables && (between 1 held z.clause && instance_fits constants (clause_of k) τ))
+  rightly constants held long e few q =
+      let counted : z.count ≡ length (take z.count z.instance) = omega (arith, length-take z.count z.instance) in
+      rw q (λ i. leb (counted i) most_variables && (between 1 held z.clause && (e i && instance_fits constants (clause_of k) (exactly_take 0 z.count z.instance (omega arith) i))))
 
   -- Its atom, as it stands
   abbrev own : Atom

@@ -2,3 +2,4 @@
 pub mod Kinds
 pub mod Steps
 pub mod Looking
+pub mod Trying

@@ -1,9 +1,9 @@
 // What a step looks at of the clause table, and what the rules ask of the conflict, of an entry and of the clause that is looked at.
 #![tactic(auto)]
 
-ghost use Rattle.std.specs.Prelude.{◌≡◌, [], ◌∷◌, ◌&&◌, cond, ◌+◌, ◌-◌, ◌≤◌, ◌<◌, min, length, take, leb};
-ghost use Rattle.basis.specs.Limits.{most_brought, most_variables, most_input, most_learned, most_clauses};
-ghost use Rattle.calculus.specs.Checks.{between};
+ghost use Rattle.std.specs.Prelude.{◌≡◌, [], ◌∷◌, ◌&&◌, cond, map, ◌+◌, ◌-◌, ◌≤◌, ◌<◌, min, length, take, leb};
+ghost use Rattle.basis.specs.Limits.{most_brought, most_variables, most_clauses};
+ghost use Rattle.calculus.specs.Checks.{between, first_refusal};
 ghost use Rattle.calculus.specs.Clauses.{same_literal};
 ghost use Rattle.calculus.specs.Clauses as calculus;
 ghost use Rattle.calculus.specs.Tests.{counts_few, literal_exists, instance_fits, complement_in_conflict, signs_fit};
@@ -12,17 +12,16 @@ ghost use Rattle.calculus.specs.Trails.{is_decision};
 ghost use Rattle.clauses.specs.Records.{clause_of, instanced_of};
 ghost use Rattle.trail.specs.Entries.{entry_of};
 ghost use Rattle.merging.specs.Results.{resolved, reason_of};
+ghost use Rattle.asking.specs.Trying.{answer_number, check_of};
 ghost use Rattle.asking.specs.Kinds.{is_propagated};
 ghost use Rattle.asking.specs.Looking.{count_brought, count_looked, looked_in, number_looked, right_in, slot_of};
 ghost use Rattle.asking.specs.Steps.{no_source, source_of, sources_in};
 
-use basis::{Atom, MOST_BROUGHT, MOST_CLAUSES, MOST_VARIABLES, Version, form_of};
-use clauses::{
-    Clause, Instanced, atoms_of, complement, denial, ground_atom, no_atom, no_clause, same_literal,
-};
+use basis::{Atom, MOST_BROUGHT, MOST_CLAUSES, MOST_VARIABLES, Refusal, Rule, Version, form_of};
+use clauses::{Clause, Instanced, complement, denial, ground_atom, no_atom, no_clause};
 use instances::{conflict_instance, has_instance, index_of, instance_fits, literal_exists};
-use joining::Merged;
 use merging::reason_of;
+use slices::prefix;
 use trail::{Entry, Kind, is_decision};
 
 // What a step looks at of the clause table, filled by whoever owns the table: the one clause, blank where there is none.
@@ -42,6 +41,7 @@ pub struct Source {
 }
 
 // One proposed step: a rule number and its arguments; those that the rule has no use for are not looked at. A Decide ends with `brought` atoms.
+// One record and no enum, since whatever step is offered is answered, an unknown rule's by 7 (`Demand1`).
 #[derive(Clone, Copy)]
 pub struct Step {
     pub rule: u8,
@@ -57,78 +57,74 @@ pub struct Step {
 }
 
 // What the atoms that a Decide names are, filled by whoever owns the table: whether each is named rightly, and the ground atoms, blank past
-// their count
+// their count. No Option: `WeighsAll` promises the count and the numbers of a Decide refused for a wrong name too, so the atoms stand beside a no.
 #[derive(Clone, Copy)]
 pub struct Named {
     pub right: bool,
     pub at: [Atom; MOST_BROUGHT],
 }
 
-// "Instance" means variables replaced by constants: a constant for each variable, in order; slots past a count are not looked at.
-type Instance = [u8; MOST_VARIABLES];
+impl Source {
+    // Its constants, as many as are counted and no more than there is room for
+    pub fn constants(&self) -> &[u8]
+        ensures { result.now ≡ take self.now.count self.now.instance }
+    {
+        prefix(&self.instance, usize::from(self.count))
+    }
+}
+
+impl Step {
+    // Its constants, likewise
+    pub fn constants(&self) -> &[u8]
+        ensures { result.now ≡ take self.now.count self.now.instance }
+    {
+        let count = usize::from(self.count);
+        prefix(&self.instance, count)
+    }
+}
 
 // ---- which numbers name something
 
-fn clause_exists(input: u8, learned: u8, c: u8) -> bool
-    requires { (input ≤ most_input) × (learned ≤ most_learned) }
-    ensures { result ≡ between 1 (input + learned) c }
+// Whether c is the number of one of so many clauses
+fn clause_exists(clauses: u8, c: u8) -> bool
+    ensures { result ≡ between 1 clauses c }
 {
-    if c < 1 {
-        return false;
-    }
-    c <= input + learned
+    1 <= c && c <= clauses
 }
 
-// A clause, and an instance for it, which is none where it is too long
-pub fn instance_named(
-    constants: u8,
-    input: u8,
-    learned: u8,
-    c: u8,
-    clause: Clause,
-    instance: Instance,
-    count: u8,
-) -> bool
-    requires { (input ≤ most_input) × (learned ≤ most_learned) }
-    ensures { result ≡ (leb count most_variables && (between 1 (input + learned) c && instance_fits constants (clause_of clause) (take count instance))) }
+// A clause of so many, and an instance for it, which is none where it is too long
+pub fn instance_named(constants: u8, clauses: u8, c: u8, clause: Clause, instance: &[u8]) -> bool
+    ensures { result ≡ (leb (length instance.now) most_variables && (between 1 clauses c && instance_fits constants (clause_of clause) instance.now)) }
 {
-    if MOST_VARIABLES < count as usize {
-        return false;
-    }
-    if !clause_exists(input, learned, c) {
-        return false;
-    }
-    instance_fits(constants, clause, instance, count)
+    instance.len() <= MOST_VARIABLES
+        && clause_exists(clauses, c)
+        && instance_fits(constants, clause, instance)
 }
 
 // .. and a literal of it
 pub fn literal_named(
     constants: u8,
-    input: u8,
-    learned: u8,
+    clauses: u8,
     c: u8,
     clause: Clause,
     l: u8,
-    instance: Instance,
-    count: u8,
+    instance: &[u8],
 ) -> bool
-    requires { (input ≤ most_input) × (learned ≤ most_learned) }
-    ensures { result ≡ (leb count most_variables && (between 1 (input + learned) c && (literal_exists (clause_of clause) l && instance_fits constants (clause_of clause) (take count instance)))) }
+    ensures { result ≡ (leb (length instance.now) most_variables && (between 1 clauses c && (literal_exists (clause_of clause) l && instance_fits constants (clause_of clause) instance.now))) }
 {
-    if !literal_exists(clause, l) {
-        return false;
-    }
-    instance_named(constants, input, learned, c, clause, instance, count)
+    literal_exists(clause, l) && instance_named(constants, clauses, c, clause, instance)
 }
 
-// "A step's reasons are tried in rising order": what is asked first and the number given where it is not so, and then what the rest gives
-pub fn refusal(ok: bool, number: u8, rest: u8) -> u8
-    ensures { result ≡ cond ok rest number }
+// "A step's reasons are tried in rising order": the refusal of the first condition that does not hold
+pub fn first_lacking(conditions: &[(bool, Refusal)]) -> Result<(), Refusal>
+    ensures { answer_number result ≡ first_refusal (map check_of conditions.now) }
 {
-    if ok {
-        return rest;
+    for (holds, refusal) in conditions {
+        if !*holds {
+            return Err(*refusal);
+        }
     }
-    number
+    Ok(())
 }
 
 // ---- the conflict and an entry
@@ -136,37 +132,23 @@ pub fn refusal(ok: bool, number: u8, rest: u8) -> u8
 pub fn is_propagated(e: Entry) -> bool
     ensures { result ≡ is_propagated e.kind }
 {
-    let kind = e.kind;
-    match kind {
-        Kind::Background => false,
-        Kind::Brought => false,
-        Kind::Propagated => true,
-        Kind::Decided => false,
-    }
+    matches!(e.kind, Kind::Propagated)
 }
 
 // Whether the entry's literal is the complement of the conflict's literal l
 pub fn is_complement(e: Entry, n: Instanced, l: u8) -> bool
     ensures { result ≡ same_literal (calculus.complement e.literal) (literal_instance (instanced_of n) l) }
 {
-    let own = e.literal;
-    let g = complement(own);
-    let h = conflict_instance(n, l);
-    same_literal(g, h)
+    complement(e.literal) == conflict_instance(n, l)
 }
 
 // Whether the entry is a literal whose complement is in the conflict
 pub fn in_conflict(n: Instanced, e: Entry) -> bool
     ensures { result ≡ complement_in_conflict (instanced_of n) (entry_of e ∷ []) }
 {
-    let kind = e.kind;
-    let l = e.literal;
-    let g = complement(l);
-    match kind {
-        Kind::Background => false,
-        Kind::Brought => false,
-        Kind::Propagated => has_instance(n, g),
-        Kind::Decided => has_instance(n, g),
+    match e.kind {
+        Kind::Background | Kind::Brought => false,
+        Kind::Propagated | Kind::Decided => has_instance(n, complement(e.literal)),
     }
 }
 
@@ -174,23 +156,20 @@ pub fn in_conflict(n: Instanced, e: Entry) -> bool
 pub fn level_after(e: Entry, k: u8) -> u8
     ensures { result ≡ cond (is_decision (entry_of e)) (k - 1) k }
 {
-    if !is_decision(e) {
-        return k;
+    if is_decision(e) {
+        k.saturating_sub(1)
+    } else {
+        k
     }
-    if k == 0 {
-        return 0;
-    }
-    k - 1
 }
 
 // The conflict resolved at its literal l with the reason that the entry's step gives, of that step's clause
-pub fn resolvent(n: Instanced, l: u8, e: Entry, clause: Clause) -> Merged
+pub fn resolvent(n: Instanced, l: u8, e: Entry, clause: Clause) -> Option<Instanced>
     ensures { result ≡ resolved n (l - 1) (reason_of clause (e.number - 1) e.instance).of (reason_of clause (e.number - 1) e.instance).own }
 {
-    let tau = e.instance;
-    let reason = reason_of(clause, index_of(e.number), tau);
-    let of = reason.of;
-    merging::resolve(n, index_of(l), of, reason.own)
+    let instance = e.instance;
+    let reason = reason_of(&Instanced { clause, instance }, index_of(e.number));
+    merging::resolve(&n, index_of(l), &reason.of, reason.own)
 }
 
 // ---- what a step looks at
@@ -199,65 +178,54 @@ pub fn resolvent(n: Instanced, l: u8, e: Entry, clause: Clause) -> Merged
 pub fn last_slot(length: u8) -> usize
     ensures { result ≡ length - 1 }
 {
-    if length < 1 {
-        return 0;
-    }
-    length as usize - 1
+    index_of(length)
 }
 
 // The number of the clause that the entry's step names, where it was propagated; else 0
 fn clause_named(e: Entry) -> u8
     ensures { result ≡ cond (is_propagated e.kind) e.clause 0 }
 {
-    if is_propagated(e) {
-        return e.clause;
-    }
-    0
+    if is_propagated(e) { e.clause } else { 0 }
 }
 
-// The number of the clause that a step looks at: the named one; Resolve looks at that of the last entry's step. 0 where it looks at none.
+// The number of the clause that a step looks at: the named one; Resolve looks at that of the last entry's step. 0 where it looks at none:
+// a number and no Option, since a step may name any number, 0 too, and what no clause has is blank (`looked_in`).
 pub fn number_looked(last: Entry, rule: u8, clause: u8) -> u8
     ensures { result ≡ number_looked last rule clause }
 {
-    match rule {
-        1 => clause,
-        2 => clause,
-        3 => clause,
-        4 => clause_named(last),
+    match Rule::try_from(rule) {
+        Ok(Rule::Propagate | Rule::Decide | Rule::Conflict) => clause,
+        Ok(Rule::Resolve) => clause_named(last),
         _ => 0,
     }
+}
+
+// Whether a table has a slot for clause c
+fn in_table(c: u8) -> bool
+    ensures { result ≡ between 1 most_clauses c }
+{
+    1 <= c && usize::from(c) <= MOST_CLAUSES
 }
 
 // The slot of a clause's number in the table; of a number that no table has, the first
 pub fn slot_of(c: u8) -> usize
     ensures { (result ≡ slot_of c) × (result < most_clauses) }
 {
-    if c < 1 {
-        return 0;
-    }
-    if MOST_CLAUSES < c as usize {
-        return 0;
-    }
-    c as usize - 1
+    if in_table(c) { usize::from(c) - 1 } else { 0 }
 }
 
 // What is looked at where a step looks at clause c, whose slot has `held`
 pub fn looked_at(c: u8, held: Clause) -> Looked
     ensures { result ≡ looked_in c held }
 {
-    let blank = no_clause();
-    if c < 1 {
-        return Looked { clause: blank };
-    }
-    if MOST_CLAUSES < c as usize {
-        return Looked { clause: blank };
-    }
-    Looked { clause: held }
+    let clause = if in_table(c) { held } else { no_clause() };
+    Looked { clause }
 }
 
 // ---- the atoms that a Decide names
 
 // A blank source
+#[tactic(auto, unfolding(lists::specs::Arrays::exactly))]
 pub fn no_source() -> Source
     ensures { result ≡ no_source }
 {
@@ -266,7 +234,7 @@ pub fn no_source() -> Source
         number: 0,
         sign: 0,
         count: 0,
-        instance: [0u8; MOST_VARIABLES],
+        instance: [0; MOST_VARIABLES],
     }
 }
 
@@ -274,52 +242,39 @@ pub fn no_source() -> Source
 pub fn count_brought(version: Version, x: Step) -> u8
     ensures { result ≡ count_brought version x }
 {
-    let form = form_of(version);
-    if form.brings {
-        return x.brought;
+    if form_of(version).brings {
+        x.brought
+    } else {
+        0
     }
-    0
 }
 
 // .. and no more than there is room for
 pub fn first_brought(version: Version, x: Step) -> u8
     ensures { (result ≡ min most_brought (count_brought version x)) × (result ≤ most_brought) }
 {
-    let n = count_brought(version, x);
-    if MOST_BROUGHT < n as usize {
-        return MOST_BROUGHT as u8;
-    }
-    n
+    count_brought(version, x).min(MOST_BROUGHT as u8)
 }
 
 // How many atoms of a step are looked at in the table
 pub fn count_looked(version: Version, x: Step) -> usize
     ensures { (result ≡ count_looked version x) × (result ≤ most_brought) × (length x.atoms ≡ most_brought) }
 {
-    let rule = x.rule;
-    if rule != 2 {
-        return 0;
+    match Rule::try_from(x.rule) {
+        Ok(Rule::Decide) => usize::from(first_brought(version, x)),
+        _ => 0,
     }
-    first_brought(version, x) as usize
 }
 
 // "3 for the counts": of the first n atoms that a step names
 pub fn counts_few(x: Step, n: u8) -> bool
     ensures { result ≡ counts_few (sources_in n x) }
 {
-    let m = n as usize;
-    if MOST_BROUGHT < m {
-        return false;
-    }
-    let mut j = 0;
-    while j < m {
-        let z = x.atoms[j];
-        if MOST_VARIABLES < z.count as usize {
-            return false;
-        }
-        j += 1;
-    }
-    true
+    let n = usize::from(n);
+    n <= MOST_BROUGHT
+        && x.atoms[..n]
+            .iter()
+            .all(|z| usize::from(z.count) <= MOST_VARIABLES)
 }
 
 // "4 for its sign above 1"
@@ -327,63 +282,31 @@ pub fn signs_fit(x: Step, n: u8) -> bool
     requires { n ≤ most_brought }
     ensures { result ≡ signs_fit (sources_in n x) }
 {
-    let m = n as usize;
-    let mut j = 0;
-    while j < m {
-        let z = x.atoms[j];
-        if 1 < z.sign {
-            return false;
-        }
-        j += 1;
-    }
-    true
+    x.atoms[..usize::from(n)].iter().all(|z| z.sign <= 1)
 }
 
 // Whether the source names an atom of its clause, which is `held`
-pub fn named_rightly(constants: u8, input: u8, learned: u8, z: Source, held: Clause) -> bool
-    requires { (input ≤ most_input) × (learned ≤ most_learned) }
-    ensures { result ≡ right_in constants (input + learned) held z }
+pub fn named_rightly(constants: u8, clauses: u8, z: Source, held: Clause) -> bool
+    ensures { result ≡ right_in constants clauses held z }
 {
-    if z.number < 1 {
-        return false;
-    }
-    if atoms_of(held) < z.number as usize {
-        return false;
-    }
-    let instance = z.instance;
-    instance_named(constants, input, learned, z.clause, held, instance, z.count)
-}
-
-pub fn also(a: bool, b: bool) -> bool
-    ensures { result ≡ (a && b) }
-{
-    if a {
-        return b;
-    }
-    false
+    1 <= z.number
+        && usize::from(z.number) <= held.atoms().len()
+        && usize::from(z.count) <= MOST_VARIABLES
+        && instance_named(constants, clauses, z.clause, held, z.constants())
 }
 
 // The clause's atom with this number, blank where it has none
 fn atom_numbered(held: Clause, n: u8) -> Atom
     ensures { result ≡ atom_numbered (clause_of held) n }
 {
-    let i = index_of(n);
-    if i < atoms_of(held) {
-        let own = held.atoms[i];
-        return own;
-    }
-    no_atom()
+    held.atoms().get(index_of(n)).copied().unwrap_or(no_atom())
 }
 
 // The atom that it names
 pub fn source_atom(z: Source, held: Clause) -> Atom
     ensures { result ≡ source_in (clause_of held) (source_of z) }
 {
-    let instance = z.instance;
-    let a = atom_numbered(held, z.number);
-    let g = ground_atom(a, instance, z.count);
-    if z.sign == 1 {
-        return g;
-    }
-    denial(g)
+    let own = atom_numbered(held, z.number);
+    let g = ground_atom(own, z.constants());
+    if z.sign == 1 { g } else { denial(g) }
 }

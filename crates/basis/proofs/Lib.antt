@@ -2,3 +2,5 @@
 pub mod Order
 pub mod Choices
 pub mod Denials
+pub mod Numbered
+pub mod RuleNumbers

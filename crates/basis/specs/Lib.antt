@@ -2,6 +2,7 @@
 -- `Possible`, and the numbers behind a yes.
 pub mod Limits
 pub mod Refusals
+pub mod RuleNumbers
 pub mod Versions
 pub mod Numbers
 pub mod Atoms

@@ -1,5 +1,7 @@
 -- The refusal numbers, each named once, with the words of the paper and of the change requests.
-use Rattle.std.specs.Prelude.{ℕ}
+use Rattle.std.specs.Prelude.{◌≡◌, ℕ}
+use Rattle.basis.specs.declared.Refusal.{Refusal}
+use Rattle.basis.specs.declared.Refusal.TheVariants as refusals
 
 -- No refusal: accepted.
 abbrev pub accepted : ℕ
@@ -92,3 +94,32 @@ buffer_short = 21
 -- "a file above 65,536 bytes"
 abbrev pub too_long : ℕ
 too_long = 22
+
+-- The number that the table has for a refusal of the code
+abbrev pub number_of : Refusal → ℕ
+number_of refusals.EndsInside = ends_inside
+number_of refusals.WrongMark = wrong_mark
+number_of refusals.AboveLimit = above_limit
+number_of refusals.OutOfRange = out_of_range
+number_of refusals.OccursNowhere = occurs_nowhere
+number_of refusals.LacksBound = lacks_bound
+number_of refusals.UnknownRule = unknown_rule
+number_of refusals.Surplus = surplus
+number_of refusals.WrongMoment = wrong_moment
+number_of refusals.NoSuch = no_such
+number_of refusals.AlreadyDefined = already_defined
+number_of refusals.NotFalse = not_false
+number_of refusals.NotPossible = not_possible
+number_of refusals.NoEntry = no_entry
+number_of refusals.WrongLiteral = wrong_literal
+number_of refusals.NotAbove = not_above
+number_of refusals.KeptNotPossible = kept_not_possible
+number_of refusals.NoRoom = no_room
+number_of refusals.TooManyRows = too_many_rows
+number_of refusals.NotInOrder = not_in_order
+number_of refusals.BufferShort = buffer_short
+number_of refusals.TooLong = too_long
+
+-- No two refusals have one number. Proved in proofs/Numbered.antt.
+abbrev pub NumberOnce : Type 0
+NumberOnce = (r s : Refusal) (n : ℕ) → number_of r ≡ n → number_of s ≡ n → r ≡ s

@@ -1,8 +1,10 @@
-// The limits and refusal numbers that code needs, each under the name that it has in specs/Limits.antt and specs/Refusals.antt; the versions of the
-// run file and what depends on them; and the records that every crate shares.
+// The limits that code needs, each under the name that it has in specs/Limits.antt; the refusals and the rules with their numbers; the versions of
+// the run file and what depends on them; and the records that every crate shares.
 #![tactic(auto)]
 
 ghost use Rattle.std.specs.Prelude.{◌≡◌};
+ghost use Rattle.basis.specs.Refusals.{number_of};
+ghost use Rattle.basis.specs.RuleNumbers.{rule_number, rule_numbered};
 ghost use Rattle.basis.specs.Versions.{form_of};
 
 pub const MOST_VARIABLES: usize = 12;
@@ -35,52 +37,131 @@ pub const MOST_DENIED: i32 = 1000001;
 
 pub const MOST_ROWS: usize = 48;
 
-pub const ENDS_INSIDE: u8 = 1;
+// The refusals of the table
+#[derive(Clone, Copy, PartialEq, Eq)]
+pub enum Refusal {
+    EndsInside,
+    WrongMark,
+    AboveLimit,
+    OutOfRange,
+    OccursNowhere,
+    LacksBound,
+    UnknownRule,
+    Surplus,
+    WrongMoment,
+    NoSuch,
+    AlreadyDefined,
+    NotFalse,
+    NotPossible,
+    NoEntry,
+    WrongLiteral,
+    NotAbove,
+    KeptNotPossible,
+    NoRoom,
+    TooManyRows,
+    NotInOrder,
+    BufferShort,
+    TooLong,
+}
 
-pub const WRONG_MARK: u8 = 2;
+// Each refusal's number
+impl From<Refusal> for u8 {
+    ghost from_gives = { λ refusal n. n ≡ number_of refusal };
 
-pub const ABOVE_LIMIT: u8 = 3;
+    fn from(refusal: Refusal) -> u8 {
+        match refusal {
+            Refusal::EndsInside => 1,
+            Refusal::WrongMark => 2,
+            Refusal::AboveLimit => 3,
+            Refusal::OutOfRange => 4,
+            Refusal::OccursNowhere => 5,
+            Refusal::LacksBound => 6,
+            Refusal::UnknownRule => 7,
+            Refusal::Surplus => 8,
+            Refusal::WrongMoment => 9,
+            Refusal::NoSuch => 10,
+            Refusal::AlreadyDefined => 11,
+            Refusal::NotFalse => 12,
+            Refusal::NotPossible => 13,
+            Refusal::NoEntry => 14,
+            Refusal::WrongLiteral => 15,
+            Refusal::NotAbove => 16,
+            Refusal::KeptNotPossible => 17,
+            Refusal::NoRoom => 18,
+            Refusal::TooManyRows => 19,
+            Refusal::NotInOrder => 20,
+            Refusal::BufferShort => 21,
+            Refusal::TooLong => 22,
+        }
+    }
+}
 
-pub const OUT_OF_RANGE: u8 = 4;
+// A refusal, and the place that it names
+#[derive(Clone, Copy, PartialEq, Eq)]
+pub struct Refused<P> {
+    pub refusal: Refusal,
+    pub place: P,
+}
 
-pub const OCCURS_NOWHERE: u8 = 5;
+// The rules of the calculus, in the order of their numbers
+#[derive(Clone, Copy, PartialEq, Eq)]
+pub enum Rule {
+    Propagate,
+    Decide,
+    Conflict,
+    Resolve,
+    Factorize,
+    Skip,
+    Backtrack,
+    Grow,
+}
 
-pub const LACKS_BOUND: u8 = 6;
+// A number that no rule has
+#[derive(Clone, Copy, PartialEq, Eq)]
+pub struct UnknownRule;
 
-pub const UNKNOWN_RULE: u8 = 7;
+impl TryFrom<u8> for Rule {
+    type Error = UnknownRule;
 
-pub const SURPLUS: u8 = 8;
+    ghost try_from_gives = { λ n rule. rule ≡ rule_numbered n };
 
-pub const WRONG_MOMENT: u8 = 9;
+    fn try_from(n: u8) -> Result<Rule, UnknownRule> {
+        match n {
+            1 => Ok(Rule::Propagate),
+            2 => Ok(Rule::Decide),
+            3 => Ok(Rule::Conflict),
+            4 => Ok(Rule::Resolve),
+            5 => Ok(Rule::Factorize),
+            6 => Ok(Rule::Skip),
+            7 => Ok(Rule::Backtrack),
+            8 => Ok(Rule::Grow),
+            _ => Err(UnknownRule),
+        }
+    }
+}
 
-pub const NO_SUCH: u8 = 10;
+impl From<Rule> for u8 {
+    ghost from_gives = { λ rule n. n ≡ rule_number rule };
 
-pub const ALREADY_DEFINED: u8 = 11;
+    fn from(rule: Rule) -> u8 {
+        match rule {
+            Rule::Propagate => 1,
+            Rule::Decide => 2,
+            Rule::Conflict => 3,
+            Rule::Resolve => 4,
+            Rule::Factorize => 5,
+            Rule::Skip => 6,
+            Rule::Backtrack => 7,
+            Rule::Grow => 8,
+        }
+    }
+}
 
-pub const NOT_FALSE: u8 = 12;
-
-pub const NOT_POSSIBLE: u8 = 13;
-
-pub const NO_ENTRY: u8 = 14;
-
-pub const WRONG_LITERAL: u8 = 15;
-
-pub const NOT_ABOVE: u8 = 16;
-
-pub const KEPT_NOT_POSSIBLE: u8 = 17;
-
-pub const NO_ROOM: u8 = 18;
-
-pub const TOO_MANY_ROWS: u8 = 19;
-
-pub const NOT_IN_ORDER: u8 = 20;
-
-pub const BUFFER_SHORT: u8 = 21;
-
-pub const TOO_LONG: u8 = 22;
+// The numbers behind a yes, one for each constant in order, 0 past the constants
+pub type Numbers = [i32; MOST_CONSTANTS];
 
 // The version of a run file, or of a state that is made without one
-#[derive(Clone, Copy)]
+#[derive(Clone, Copy, PartialEq, Eq)]
 pub enum Version {
     One,
     Two,
@@ -93,7 +174,7 @@ pub struct Form {
 }
 
 // The atom record: a background atom p - q at most c, over places (a variable or a constant by its number; 0 is the number zero).
-#[derive(Clone, Copy)]
+#[derive(Clone, Copy, PartialEq, Eq)]
 pub struct Atom {
     pub p: u8,
     pub q: u8,
@@ -101,20 +182,13 @@ pub struct Atom {
 }
 
 // The literal record: a sign, a predicate and its arguments, variables or constants by their numbers; 0 past the predicate's arity.
-#[derive(Clone, Copy)]
+#[derive(Clone, Copy, PartialEq, Eq)]
 pub struct Literal {
     pub positive: bool,
     pub predicate: u8,
     pub x: u8,
     pub y: u8,
     pub z: u8,
-}
-
-// The witness record: the numbers behind a yes, one for each constant in order, 0 past the constants; or none, and then all are 0.
-#[derive(Clone, Copy)]
-pub struct Witness {
-    pub given: bool,
-    pub numbers: [i32; MOST_CONSTANTS],
 }
 
 // What depends on the version

@@ -1,19 +1,14 @@
 -- A clause within the limits is what its record says.
-use mathlib.Core.Path.{◌≡◌, refl, sym, ◌∙◌, ap, subst}
-use mathlib.Core.List.{List, []}
+use mathlib.Core.Path.{◌≡◌, sym, ◌∙◌, ap, subst}
+use mathlib.Core.List.{[]}
 use mathlib.Core.Bool.{Bool, true, ◌&&◌}
-use Prim.Native.Nat.{ℕ, zero, suc, ◌-◌, ◌<◌, ◌≤◌}
+use Prim.Native.Nat.{ℕ, ◌≤◌}
 use native.Mathlib.Omega.{arith}
-use lib.IntN.{ℤ}
-use lib.Dec.{T, T_not, eqb, leb, leb→le}
-use lib.ListN.{length, get_or, take, get_or-eq_default}
-use mir.Syntax.{Width}
-use mir.Val.{to_z, of_z}
-use borrow.Author.Tests.{eq-eqb, ne_eqb}
+use lib.Dec.{T, leb, leb→le}
+use lib.ListN.{length, take}
 use Rattle.basis.specs.Limits.{most_variables, most_atoms, most_literals}
 use Rattle.basis.specs.Atoms.{no_atom}
-use Rattle.lists.specs.Lists.{same_whole}
-use Rattle.lists.proofs.Tests.{Said, holds, fails, said, T→eq, F→eq, and_l, and_r, same_whole→eq, same_whole_refl}
+use Rattle.lists.proofs.Tests.{and_l, and_r}
 use Rattle.lists.proofs.Arrays.{take_exactly}
 use Rattle.calculus.specs.Class.{Limited}
 use Rattle.clauses.specs.declared.Clause.{Clause}
@@ -36,24 +31,6 @@ pub packed_instanced_says : (N : calculus.Instanced) → Limited N.clause → le
 packed_instanced_says N h e =
     let whole = ap (λ (n : ℕ). take n (packed_instanced N).instance) (sym e) ∙ take_exactly 0 most_variables N.instance (omega (arith, h.few_variables)) in
     λ i. record { clause = packed_says N.clause h i; instance = whole i }
-
-pub under_suc : (t : List ℕ) (x : ℕ) → (x ≡ 0 → ⊥) → calculus.under t x ≡ get_or t (x - 1) 0
-under_suc t zero h = absurd (h refl)
-under_suc t (suc x) h = ap (λ (k : ℕ). get_or t k 0) (omega arith)
-
-pub under_past : (t : List ℕ) (x : ℕ) → length t < x → calculus.under t x ≡ 0
-under_past t zero h = refl
-under_past t (suc x) h = get_or-eq_default t 0 (omega arith)
-
--- Signed numbers compared as machine words
-pub same_words : (w : Width) (a b : ℤ) → to_z w (of_z w a) ≡ a → to_z w (of_z w b) ≡ b → eqb (of_z w a) (of_z w b) ≡ same_whole a b
-same_words w a b p q = go (said (same_whole a b))
-  where
-    go : Said (same_whole a b) → eqb (of_z w a) (of_z w b) ≡ same_whole a b
-    go (holds t) = eq-eqb _ _ (ap (of_z w) (same_whole→eq a b t)) ∙ sym (T→eq (same_whole a b) t)
-    go (fails t) =
-        ne_eqb _ _ (λ e. T_not (same_whole a b) t (subst (λ (k : ℤ). T (same_whole a k)) (sym p ∙ ap (to_z w) e ∙ q) (same_whole_refl a)))
-        ∙ sym (F→eq (same_whole a b) t)
 
 pub counted_facts : (c : Clause) → counted c ≡ true → Counted c
 counted_facts c e = record {

@@ -1,5 +1,6 @@
 -- The most bytes that each text has, from the paper's limits, and what a writer promises.
-use Rattle.std.specs.Prelude.{◌≡◌, List, ℕ, ◌+◌, ◌*◌, ◌≤◌}
+use Rattle.std.specs.Borrow.{MutBor}
+use Rattle.std.specs.Prelude.{◌≡◌, List, ℕ, ◌+◌, ◌*◌, ◌≤◌, ◌<◌, length, get_or}
 use Rattle.basis.specs.Limits.{most_atoms, most_literals, most_arguments}
 use Rattle.text.specs.Text.{Wrote}
 
@@ -35,3 +36,14 @@ pub record Put (most : ℕ) (d : List ℕ) (i : ℕ) (w d' : List ℕ) (r : ℕ)
 -- The buffer and the place are unique. Proved in proofs/Turns.antt.
 abbrev pub PutOnce : Type 0
 PutOnce = (most : ℕ) (d : List ℕ) (i : ℕ) (w d₁ d₂ : List ℕ) (r₁ r₂ : ℕ) → Put most d i w d₁ r₁ → Put most d i w d₂ r₂ → (d₁ ≡ d₂) × (r₁ ≡ r₂)
+
+-- How the elements of a list are written: each as the text of its number, from 0 on, and itself, which has at most so many bytes
+pub record Each (A : Type 0) : Type 0 where
+  pub most : ℕ
+  pub text : ℕ → A → List ℕ
+
+-- What `put_each` asks of the function that it calls, of which `may` says when a call may be made and `does` what it leaves: with room for the most bytes
+-- from i on, a call for x, the element number j of xs, may be made, and leaves its text.
+abbrev pub PutsEach : {A : Type 0} → (may : MutBor (List ℕ) → ℕ → ℕ → A → Type 0) (does : MutBor (List ℕ) → ℕ → ℕ → A → ℕ → MutBor (List ℕ) → Type 0) → Each A → List A → Type 0
+PutsEach {A} may does each xs = (d : MutBor (List ℕ)) (i j : ℕ) (x : A) → j < length xs → x ≡ get_or xs j x → i + each.most ≤ length d.now
+    → may d i j x × ((d' : MutBor (List ℕ)) (r : ℕ) → does d i j x r d' → Put each.most d.now i (each.text j x) d'.now r)

@@ -2,19 +2,36 @@
 // what it wrote; the caller sees to the room.
 #![tactic(auto)]
 
-ghost use Rattle.std.specs.Prelude.{◌≡◌, [], ◌∷◌, ◌+◌, ◌*◌, ◌≤◌, ◌<◌, length, take};
-ghost use Rattle.basis.specs.Limits.{most_variables, most_atoms, most_literals};
-ghost use Rattle.lists.specs.Arrays.{exactly};
-ghost use Rattle.calculus.specs.Clauses.{arguments};
+ghost use Rattle.std.specs.Prelude.{◌≡◌, [], ◌∷◌, ◌++◌, ◌+◌, ◌*◌, ◌≤◌, ◌<◌, length, nat_eq, position};
 ghost use Rattle.clauses.specs.Records.{clause_of};
-ghost use Rattle.text.specs.Text.{decimal};
+ghost use Rattle.text.specs.Text.{bytes, decimal};
 ghost use Rattle.clausetext.specs.ClauseText.{in_turn, parting, number_text, tuple_text, atom_text, until_zero, sign_text, literal_text, listed_atom, listed_literal, clause_text};
-ghost use Rattle.clausetext.specs.Room.{most_number, most_atom, most_tuple, most_literal, most_clause_text, Put};
+ghost use Rattle.clausetext.specs.Room.{most_number, most_atom, most_tuple, most_literal, most_clause_text, Each, Put, PutsEach};
 
-use basis::{Atom, Literal, MOST_VARIABLES};
-use clauses::{Clause, atoms_of, literals_of};
-use instances::constants_of;
+use basis::{Atom, Literal};
+use clauses::Clause;
 use text::{put_byte, put_decimal, put_signed, put_word};
+
+// ---- lists
+
+// Each item from where the one before ended: `one` is handed the buffer, a place, the item's number, from 0 on, and the item.
+pub fn put_each<T: Copy, F: Fn(&mut [u8], usize, usize, T) -> usize>(
+    out: &mut [u8],
+    at: usize,
+    items: &[T],
+    one: F,
+) -> usize
+    ghost each: { Each T }
+    requires puts { PutsEach (F.pre one) (F.post one) each items.now }
+    requires room { at + length items.now * each.most ≤ length out.old }
+    ensures { Put (length items.now * each.most) out.old at (in_turn 0 each.text items.now) out.new result }
+{
+    let mut next = at;
+    for (j, x) in items.iter().enumerate() {
+        next = one(out, next, j, *x);
+    }
+    next
+}
 
 // ---- numbers and atoms
 
@@ -30,7 +47,7 @@ pub fn put_number(out: &mut [u8], at: usize, n: u8) -> usize
     requires { at + most_number ≤ length out.old }
     ensures { Put most_number out.old at (decimal n) out.new result }
 {
-    put_small(out, at, n as usize)
+    put_small(out, at, usize::from(n))
 }
 
 // What parts element j of a list from the one before it
@@ -38,10 +55,7 @@ fn put_parting(out: &mut [u8], at: usize, j: usize, b: u8) -> usize
     requires { at + 1 ≤ length out.old }
     ensures { Put 1 out.old at (parting (b ∷ []) j) out.new result }
 {
-    if j == 0 {
-        return at;
-    }
-    put_byte(out, at, b)
+    if j == 0 { at } else { put_byte(out, at, b) }
 }
 
 fn put_listed_number(out: &mut [u8], at: usize, j: usize, n: u8) -> usize
@@ -52,35 +66,14 @@ fn put_listed_number(out: &mut [u8], at: usize, j: usize, n: u8) -> usize
     put_number(out, next, n)
 }
 
-// The first `count` numbers, parted by commas
-fn put_numbers(out: &mut [u8], at: usize, numbers: [u8; MOST_VARIABLES], count: u8) -> usize
-    requires { at + length (take count numbers) * (1 + most_number) ≤ length out.old }
-    ensures { Put (length (take count numbers) * (1 + most_number)) out.old at (in_turn 0 number_text (take count numbers)) out.new result }
+// Arguments, or an instance's constants, in brackets
+pub fn put_tuple(out: &mut [u8], at: usize, numbers: &[u8]) -> usize
+    requires { at + most_tuple (length numbers.now) ≤ length out.old }
+    ensures { Put (most_tuple (length numbers.now)) out.old at (tuple_text numbers.now) out.new result }
 {
-    let n = constants_of(numbers, count);
-    let mut next = at;
-    let mut j: usize = 0;
-    while j < n {
-        next = put_listed_number(out, next, j, numbers[j]);
-        j += 1;
-    }
-    next
-}
-
-fn put_tuple(out: &mut [u8], at: usize, numbers: [u8; MOST_VARIABLES], count: u8) -> usize
-    requires { at + most_tuple (length (take count numbers)) ≤ length out.old }
-    ensures { Put (most_tuple (length (take count numbers))) out.old at (tuple_text (take count numbers)) out.new result }
-{
-    let a = put_byte(out, at, b'(');
-    let b = put_numbers(out, a, numbers, count);
-    put_byte(out, b, b')')
-}
-
-pub fn put_instance(out: &mut [u8], at: usize, instance: [u8; MOST_VARIABLES], count: u8) -> usize
-    requires { at + most_tuple most_variables ≤ length out.old }
-    ensures { Put (most_tuple most_variables) out.old at (tuple_text (take count instance)) out.new result }
-{
-    put_tuple(out, at, instance, count)
+    let open = put_byte(out, at, b'(');
+    let close = put_each(out, open, numbers, put_listed_number);
+    put_byte(out, close, b')')
 }
 
 pub fn put_atom(out: &mut [u8], at: usize, a: Atom) -> usize
@@ -96,31 +89,19 @@ pub fn put_atom(out: &mut [u8], at: usize, a: Atom) -> usize
 
 // ---- literals
 
-// The arguments of a literal, held as an instance's constants are
-fn arguments_of(l: Literal) -> [u8; MOST_VARIABLES]
-    ensures { result ≡ exactly most_variables 0 (arguments l) }
+// The place of the first 0
+fn zero_at(numbers: &[u8]) -> Option<usize>
+    ensures { result ≡ position (λ n. nat_eq n 0) numbers.now }
 {
-    let mut r = [0u8; MOST_VARIABLES];
-    r[0] = l.x;
-    r[1] = l.y;
-    r[2] = l.z;
-    r
+    numbers.iter().position(|n| *n == 0)
 }
 
-// How many arguments there are: those before the first 0
-fn arguments_shown(l: Literal) -> u8
-    ensures { result ≡ length (until_zero (arguments l)) }
+// The numbers before the first 0
+#[tactic(auto, using(crate::proofs::Literals::shown_within, crate::proofs::Literals::until_taken))]
+fn until_zero(numbers: &[u8]) -> &[u8]
+    ensures { result.now ≡ until_zero numbers.now }
 {
-    if l.x == 0 {
-        return 0;
-    }
-    if l.y == 0 {
-        return 1;
-    }
-    if l.z == 0 {
-        return 2;
-    }
-    3
+    &numbers[..zero_at(numbers).unwrap_or(numbers.len())]
 }
 
 fn put_sign(out: &mut [u8], at: usize, positive: bool) -> usize
@@ -128,9 +109,10 @@ fn put_sign(out: &mut [u8], at: usize, positive: bool) -> usize
     ensures { Put 1 out.old at (sign_text positive) out.new result }
 {
     if positive {
-        return at;
+        at
+    } else {
+        put_byte(out, at, b'~')
     }
-    put_byte(out, at, b'~')
 }
 
 pub fn put_literal(out: &mut [u8], at: usize, l: Literal) -> usize
@@ -140,9 +122,7 @@ pub fn put_literal(out: &mut [u8], at: usize, l: Literal) -> usize
     let sign = put_sign(out, at, l.positive);
     let letter = put_byte(out, sign, b'P');
     let predicate = put_number(out, letter, l.predicate);
-    let numbers = arguments_of(l);
-    let count = arguments_shown(l);
-    put_tuple(out, predicate, numbers, count)
+    put_tuple(out, predicate, until_zero(&[l.x, l.y, l.z]))
 }
 
 // ---- clauses
@@ -155,42 +135,26 @@ fn put_listed_atom(out: &mut [u8], at: usize, j: usize, a: Atom) -> usize
     put_atom(out, next, a)
 }
 
-fn put_atoms(out: &mut [u8], at: usize, c: Clause) -> usize
-    requires { at + most_atoms * (1 + most_atom) ≤ length out.old }
-    ensures { Put (most_atoms * (1 + most_atom)) out.old at (in_turn 0 listed_atom (clause_of c).atoms) out.new result }
+fn put_atoms(out: &mut [u8], at: usize, atoms: &[Atom]) -> usize
+    requires { at + length atoms.now * (1 + most_atom) ≤ length out.old }
+    ensures { Put (length atoms.now * (1 + most_atom)) out.old at (in_turn 0 listed_atom atoms.now) out.new result }
 {
-    let n = atoms_of(c);
-    let mut next = at;
-    let mut j: usize = 0;
-    while j < n {
-        let a = c.atoms[j];
-        next = put_listed_atom(out, next, j, a);
-        j += 1;
-    }
-    next
+    put_each(out, at, atoms, put_listed_atom)
 }
 
-fn put_listed_literal(out: &mut [u8], at: usize, j: usize, l: Literal) -> usize
+fn put_listed_literal(out: &mut [u8], at: usize, _: usize, l: Literal) -> usize
     requires { at + (1 + most_literal) ≤ length out.old }
-    ensures { Put (1 + most_literal) out.old at (listed_literal j l) out.new result }
+    ensures { Put (1 + most_literal) out.old at (bytes " " ++ literal_text l) out.new result }
 {
     let next = put_byte(out, at, b' ');
     put_literal(out, next, l)
 }
 
-fn put_literals(out: &mut [u8], at: usize, c: Clause) -> usize
-    requires { at + most_literals * (1 + most_literal) ≤ length out.old }
-    ensures { Put (most_literals * (1 + most_literal)) out.old at (in_turn 0 listed_literal (clause_of c).literals) out.new result }
+fn put_literals(out: &mut [u8], at: usize, literals: &[Literal]) -> usize
+    requires { at + length literals.now * (1 + most_literal) ≤ length out.old }
+    ensures { Put (length literals.now * (1 + most_literal)) out.old at (in_turn 0 listed_literal literals.now) out.new result }
 {
-    let n = literals_of(c);
-    let mut next = at;
-    let mut j: usize = 0;
-    while j < n {
-        let l = c.literals[j];
-        next = put_listed_literal(out, next, j, l);
-        j += 1;
-    }
-    next
+    put_each(out, at, literals, put_listed_literal)
 }
 
 // Variables, atoms and literals
@@ -200,7 +164,7 @@ pub fn put_clause(out: &mut [u8], at: usize, c: Clause) -> usize
 {
     let variables = put_number(out, at, c.variables);
     let open = put_word(out, variables, b" [");
-    let atoms = put_atoms(out, open, c);
+    let atoms = put_atoms(out, open, c.atoms());
     let close = put_byte(out, atoms, b']');
-    put_literals(out, close, c)
+    put_literals(out, close, c.literals())
 }

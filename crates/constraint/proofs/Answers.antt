@@ -1,10 +1,11 @@
 -- Yes where every atom is put in, no where one closes a chain below zero.
-use mathlib.Core.Path.{◌≡◌, refl, sym}
-use mathlib.Core.Bool.{true, false, true≢false}
+use mathlib.Core.Path.{◌≡◌, refl}
+use Rattle.std.specs.Prelude.{Some, None}
+use mathlib.Core.Bool.{true}
 use mathlib.Core.List.{List}
 use Prim.Native.Nat.{ℕ, suc, ◌<◌}
 use native.Mathlib.Omega.{arith}
-use lib.ListN.{take}
+use lib.ListN.{length}
 use lib.IntN.{ℤ, pos, negsuc, ◌+ℤ◌}
 use lib.Signed.{lt_z}
 use Rattle.basis.specs.declared.Atom.{Atom}
@@ -21,19 +22,14 @@ use Rattle.constraint.specs.Square.{places, most_bound, entry, Keeping, Stands, 
 use Rattle.constraint.proofs.Numbers.{placed, square_numbers}
 use Rattle.constraint.proofs.Stands.{stands_none}
 use Rattle.constraint.proofs.Steps.{place_p, place_q, within_c, among}
-use Rattle.constraint.specs.Witnesses.{no_numbers, packed_numbers}
+use Rattle.constraint.specs.Witnesses.{packed_numbers}
 
-module _ (constants count : ℕ) (atoms : List Atom) (A : Accepted constants count atoms) where
-  pub answer_yes : (t : List (List ℤ)) → Stands (Posed constants atoms count) t →
-      Keeping constants (take count atoms) (record { given = true; numbers = packed_numbers (less_zero constants (values whole_bounds constants (entry t))) })
-  answer_yes t S = let found = square_numbers constants count atoms A t S in
-      record {
-        decides = (numbers_exist constants (take count atoms) (placed constants count atoms A)).1 (_, found);
-        shown = λ e. (_, found, refl);
-        blank = λ e. absurd (true≢false e);
-      }
+module _ (constants : ℕ) (atoms : List Atom) (A : Accepted constants atoms) where
+  pub answer_yes : (t : List (List ℤ)) → Stands (Posed constants atoms (length atoms)) t →
+      Keeping constants atoms (Some (packed_numbers (less_zero constants (values whole_bounds constants (entry t)))))
+  answer_yes t S = let found = square_numbers constants atoms A t S in ((numbers_exist constants atoms (placed constants atoms A)).1 (_, found), (_, found, refl))
 
-  module _ (P : Possible whole constants (take count atoms)) where
+  module _ (P : Possible whole constants atoms) where
     -- Numbers that are possible, drawn together: they keep the order and each atom.
     near : (w : ℕ → ℤ) × Together places most_bound P.value w
     near = drawn places most_bound P.value
@@ -45,15 +41,11 @@ module _ (constants count : ℕ) (atoms : List Atom) (A : Accepted constants cou
           (by_order_lem (P.value j) (P.value (suc j)) (P.rising j a b)),
     )
 
-    meets : (k : ℕ) → k < count → Meets atoms near.0 k
-    meets k h = near.1.kept (atom_at atoms k).p (atom_at atoms k).q (atom_at atoms k).c (place_p constants count atoms A k h) (place_q constants count atoms A k h) (within_c constants count atoms A k h)
-        (by_sum (P.value (atom_at atoms k).p) (P.value (atom_at atoms k).q) (atom_at atoms k).c (P.every (atom_at atoms k) (among constants count atoms A k h)))
+    meets : (k : ℕ) → k < length atoms → Meets atoms near.0 k
+    meets k h = near.1.kept (atom_at atoms k).p (atom_at atoms k).q (atom_at atoms k).c (place_p constants atoms A k h) (place_q constants atoms A k h) (within_c constants atoms A k h)
+        (by_sum (P.value (atom_at atoms k).p) (P.value (atom_at atoms k).q) (atom_at atoms k).c (P.every (atom_at atoms k) (among constants atoms A k h)))
 
-  pub answer_no : (k : ℕ) (h : k < count) (t : List (List ℤ)) → Stands (Posed constants atoms k) t → lt_z ((atom_at atoms k).c +ℤ entry t (atom_at atoms k).q (atom_at atoms k).p) (pos 0) ≡ true →
-      Keeping constants (take count atoms) (record { given = false; numbers = no_numbers })
-  answer_no k h t S e = record {
-    decides = λ P. stands_none (Posed constants atoms k) t S (atom_at atoms k).p (atom_at atoms k).q (atom_at atoms k).c (place_p constants count atoms A k h) (place_q constants count atoms A k h) e (near P).0
-        (in_order P, λ j i. meets P j (omega arith)) (meets P k h);
-    shown = λ e. absurd (true≢false (sym e));
-    blank = λ e. refl;
-  }
+  pub answer_no : (k : ℕ) (h : k < length atoms) (t : List (List ℤ)) → Stands (Posed constants atoms k) t → lt_z ((atom_at atoms k).c +ℤ entry t (atom_at atoms k).q (atom_at atoms k).p) (pos 0) ≡ true →
+      Keeping constants atoms None
+  answer_no k h t S e P = stands_none (Posed constants atoms k) t S (atom_at atoms k).p (atom_at atoms k).q (atom_at atoms k).c (place_p constants atoms A k h) (place_q constants atoms A k h) e (near P).0
+      (in_order P, λ j i. meets P j (omega arith)) (meets P k h)

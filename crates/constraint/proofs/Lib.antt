@@ -7,4 +7,3 @@ pub mod Start
 pub mod Steps
 pub mod Numbers
 pub mod Answers
-pub mod Refusals

@@ -1,17 +1,16 @@
 -- The square, step by step: one constant more in order, one atom more.
-use mathlib.Core.Path.{◌≡◌, subst}
+use mathlib.Core.Path.{◌≡◌}
 use mathlib.Core.Bool.{false}
 use mathlib.Core.List.{List, Memᴰ}
 use Prim.Native.Nat.{ℕ, ◌+◌, ◌<◌}
-use native.Mathlib.Decide.{dec_lt}
 use native.Mathlib.Omega.{arith}
-use lib.ListN.{length, take, get_or-eq_default}
+use lib.ListN.{length}
 use lib.IntN.{ℤ, pos, ◌+ℤ◌}
 use lib.Signed.{lt_z}
 use borrow.Author.Count.{below_more}
 use Rattle.basis.specs.declared.Atom.{Atom}
-use Rattle.basis.specs.Atoms.{no_atom, InTest, Proper}
-use Rattle.lists.proofs.Members.{member_at}
+use Rattle.basis.specs.Atoms.{no_atom}
+use Rattle.lists.proofs.Members.{get_d_mem}
 use Rattle.integers.specs.Sides.{Within}
 use Rattle.integers.proofs.Linear.{le→}
 use Rattle.bounds.specs.Whole.{whole_bounds}
@@ -24,14 +23,7 @@ use Rattle.constraint.proofs.Stands.{stands_as, stands-put}
 pub atoms_none : (constants : ℕ) (atoms : List Atom) (t : List (List ℤ)) → Stands (Ordered constants) t → Stands (Posed constants atoms 0) t
 atoms_none constants atoms t S = stands_as S (λ v. (λ h. (h, λ j a. absurd (omega arith)), λ h. h.0))
 
--- A proper atom is no blank one, so it stands in the list.
-in_list : (constants k : ℕ) (atoms : List Atom) → Proper InTest constants (atom_at atoms k) → k < length atoms
-in_list constants k atoms h = elim (dec_lt k (length atoms)) [ yes e ↦ e | no e ↦ absurd (blank (subst (Proper InTest constants) (get_or-eq_default atoms no_atom (omega arith)) h)) ]
-  where
-    blank : Proper InTest constants no_atom → ⊥
-    blank p = omega (arith, p.some_place)
-
-module _ (constants count : ℕ) (atoms : List Atom) (A : Accepted constants count atoms) (k : ℕ) (hk : k < count) where
+module _ (constants : ℕ) (atoms : List Atom) (A : Accepted constants atoms) (k : ℕ) (hk : k < length atoms) where
   pub place_p : (atom_at atoms k).p < places
   place_p = omega (arith, (A.proper k hk).p_place, A.few_enough.few_constants)
 
@@ -41,8 +33,8 @@ module _ (constants count : ℕ) (atoms : List Atom) (A : Accepted constants cou
   pub within_c : Within most_bound (atom_at atoms k).c
   within_c = record { above = omega (arith, le→ (A.proper k hk).c_range.high); below = omega (arith, le→ (A.proper k hk).c_range.low) }
 
-  pub among : Memᴰ (atom_at atoms k) (take count atoms)
-  among = member_at no_atom atoms count k hk (in_list constants k atoms (A.proper k hk))
+  pub among : Memᴰ (atom_at atoms k) atoms
+  among = get_d_mem atoms k no_atom hk
 
   pub atoms_more : (t r : List (List ℤ)) → Stands (Posed constants atoms k) t →
       ((i j : ℕ) → i < places → j < places → entry r i j ≡ put whole_bounds (entry t) (atom_at atoms k).p (atom_at atoms k).q (atom_at atoms k).c i j) →

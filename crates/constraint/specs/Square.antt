@@ -1,21 +1,16 @@
 -- The square of 17 by 17 bounds that the test works on, what the private functions do to it, and that no sum of bounds overflows.
 -- The promise is in Test and needs nothing of this.
-use Rattle.std.specs.Prelude.{◌≡◌, true, false, cond, ◌&&◌, List, [], ◌↔◌, ℕ, zero, suc, ◌+◌, ◌-◌, ◌*◌, ◌≤◌, ◌<◌, eqb, leb, ltb, get_or, ℤ, pos, negsuc, ◌+ℤ◌, ◌-ℤ◌}
+use Rattle.std.specs.Prelude.{cond, ◌&&◌, List, [], ◌↔◌, ℕ, suc, ◌+◌, ◌-◌, ◌*◌, ◌≤◌, ◌<◌, eqb, leb, ltb, get_or, length, Option, Some, None, ℤ, pos, negsuc, ◌+ℤ◌, ◌-ℤ◌}
 use Rattle.std.specs.Int.{w64}
 use Rattle.std.proofs.Common.{SFits}
 use Rattle.basis.specs.declared.Atom.{Atom}
-use Rattle.basis.specs.declared.Witness.{Witness}
 use Rattle.basis.specs.Atoms.{InTest, Possible, Proper}
 use Rattle.basis.specs.Limits.{most_denied}
 use Rattle.basis.specs.Numbers.{whole}
-use Rattle.lists.specs.Tests.{Decides}
 use Rattle.integers.specs.Sides.{Within}
 use Rattle.bounds.specs.Whole.{whole_bounds}
 use Rattle.bounds.specs.Squares.{Keeps, KeepsAll, Closed}
 use Rattle.constraint.specs.Test.{NumbersIn, atom_at}
-use Rattle.constraint.specs.declared.Answer.TheVariants.{Refused}
-use Rattle.constraint.specs.declared.Finding.{Finding}
-use Rattle.constraint.specs.Witnesses.{no_numbers}
 
 -- "a table of bounds between every two of 17 places (16 constants and zero)"
 abbrev pub places : ℕ
@@ -81,20 +76,15 @@ Meets atoms v k = Keeps whole_bounds v (atom_at atoms k).p (atom_at atoms k).q (
 abbrev pub Posed : ℕ → List Atom → ℕ → (ℕ → ℤ) → Type 0
 Posed constants atoms k v = Ordered constants v × ((j : ℕ) → j < k → Meets atoms v j)
 
--- What is said of the order and the atoms: numbers are given exactly if they are possible, and are those behind the yes.
-pub record Keeping (constants : ℕ) (atoms : List Atom) (w : Witness) : Type 0 where
-  pub decides : Decides (Possible whole constants atoms) w.given
-  pub shown : w.given ≡ true → NumbersIn constants atoms w.numbers
-  pub blank : w.given ≡ false → w.numbers ≡ no_numbers
+-- What is said of the order and the atoms: numbers exactly if they are possible, and those behind the yes.
+abbrev pub Keeping : ℕ → List Atom → Option (List ℤ) → Type 0
+Keeping constants atoms (Some slots) = Possible whole constants atoms × NumbersIn constants atoms slots
+Keeping constants atoms None = ¬ Possible whole constants atoms
 
--- A refusal, with no numbers beside it
-abbrev pub refused_finding : ℕ → ℕ → Finding
-refused_finding number place = record { answer = Refused number place; numbers = no_numbers }
-
--- 0 where the first `count` atoms are proper, and else the number of the first that is not.
-abbrev pub FirstImproper : ℕ → ℕ → List Atom → ℕ → Type 0
-FirstImproper constants count atoms zero = (j : ℕ) → j < count → Proper InTest constants (atom_at atoms j)
-FirstImproper constants count atoms (suc k) = (k < count) × ((j : ℕ) → j < k → Proper InTest constants (atom_at atoms j)) × ¬ Proper InTest constants (atom_at atoms k)
+-- None where all atoms are proper, and else the first that is not, from 0.
+abbrev pub FirstImproper : ℕ → List Atom → Option ℕ → Type 0
+FirstImproper constants atoms None = (j : ℕ) → j < length atoms → Proper InTest constants (atom_at atoms j)
+FirstImproper constants atoms (Some k) = (k < length atoms) × ((j : ℕ) → j < k → Proper InTest constants (atom_at atoms j)) × ¬ Proper InTest constants (atom_at atoms k)
 
 -- No sum of bounds overflows: each sum that the test forms, of a sound square and a bound put in, lies from -35,000,035 to 35,000,035,
 -- and 64 bits hold it. Every square of the test is sound. Proved in proofs/Sums.antt.

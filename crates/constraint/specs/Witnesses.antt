@@ -1,7 +1,7 @@
--- The record of the numbers behind a yes.
-use Rattle.std.specs.Prelude.{List, [], true, false, ℤ, pos}
+-- The numbers behind a yes, as the code has them.
+use Rattle.std.specs.Prelude.{List, ℤ, pos}
+use Rattle.std.specs.Prelude as std
 use Rattle.std.proofs.Math.Option.{Option, none, some}
-use Rattle.basis.specs.declared.Witness.{Witness}
 use Rattle.basis.specs.Limits.{most_constants}
 use Rattle.lists.specs.Arrays.{exactly}
 
@@ -9,11 +9,7 @@ use Rattle.lists.specs.Arrays.{exactly}
 abbrev pub packed_numbers : List ℤ → List ℤ
 packed_numbers numbers = exactly most_constants (pos 0) numbers
 
--- An array that holds none
-abbrev pub no_numbers : List ℤ
-no_numbers = packed_numbers []
-
--- Numbers, or none
-abbrev pub packed_witness : Option (List ℤ) → Witness
-packed_witness none = record { given = false; numbers = no_numbers }
-packed_witness (some numbers) = record { given = true; numbers = packed_numbers numbers }
+-- Numbers, or none, in such an array
+abbrev pub packed_given : Option (List ℤ) → std.Option (List ℤ)
+packed_given none = std.None
+packed_given (some numbers) = std.Some (packed_numbers numbers)

@@ -2,9 +2,8 @@
 // are put one by one, closed after each, until one closes a chain below zero or all are in.
 #![tactic(auto)]
 
-ghost use Rattle.std.specs.Prelude.{◌≡◌, ℕ, ◌<◌, ◌≤◌, take, pos, ◌+ℤ◌, ◌-ℤ◌};
-ghost use Rattle.std.specs.Int.Signed.{lt_z};
-ghost use Rattle.basis.specs.Limits.{most_constants, most_tested};
+ghost use Rattle.std.specs.Prelude.{◌≡◌, ℕ, ◌<◌, ◌≤◌, ◌+ℤ◌, ◌-ℤ◌};
+ghost use Rattle.basis.specs.Limits.{most_constants};
 ghost use Rattle.basis.specs.Atoms.{InTest, Proper};
 ghost use Rattle.basis.specs.Choices.{less_zero};
 ghost use Rattle.lists.specs.Tests.{Decides};
@@ -12,12 +11,10 @@ ghost use Rattle.integers.specs.Sides.{Within};
 ghost use Rattle.bounds.specs.Whole.{whole_bounds};
 ghost use Rattle.bounds.specs.Squares.{lower, lowest, values};
 ghost use Rattle.constraint.specs.Test.{Accepted, Says};
-ghost use Rattle.constraint.specs.Square.{places, most_bound, refused_finding, far, most_chain, at, entry, Keeping, Sound, Stands, Ordered, stand_after, stand_before, by_order, FirstImproper};
+ghost use Rattle.constraint.specs.Square.{places, far, most_chain, at, entry, Keeping, Sound, Stands, Ordered, stand_after, stand_before, by_order, FirstImproper};
 ghost use Rattle.constraint.specs.Witnesses.{packed_numbers};
 
-use basis::{
-    ABOVE_LIMIT, Atom, MOST_C, MOST_CONSTANTS, MOST_DENIED, MOST_TESTED, OUT_OF_RANGE, Witness,
-};
+use basis::{Atom, MOST_C, MOST_CONSTANTS, MOST_DENIED, MOST_TESTED, Numbers, Refusal, Refused};
 
 // The places of the square: zero and the constants.
 const PLACES: usize = 17;
@@ -25,45 +22,18 @@ const PLACES: usize = 17;
 // The bound that stands in place of none: 17 times the largest bound, so that it takes no values away.
 const FAR: i64 = 17000017;
 
-// The answer of the constraint test.
-#[derive(Clone, Copy)]
-pub enum Answer {
-    Yes,
-    No,
-    Refused { number: u8, place: u8 },
-}
-
-// What the constraint test finds: its answer, and beside a yes the numbers behind it, one for each constant in order and 0 past them; beside
-// any other answer all are 0, since no enum holds an array.
-#[derive(Clone, Copy)]
-pub struct Finding {
-    pub answer: Answer,
-    pub numbers: [i32; MOST_CONSTANTS],
-}
-
-// The lower of `old` and the bound that goes by `start` and then by `on`.
-fn lowered(start: i64, on: i64, old: i64) -> i64
-    requires { Within most_chain start × Within far on }
-    ensures { result ≡ lower whole_bounds (start +ℤ on) old }
-{
-    let new = start + on;
-    if new < old { new } else { old }
-}
+// The bounds of one place to each
+type Row = [i64; PLACES];
 
 // Each bound of the row lowered to the one that goes by `start` and then by the row `via`.
-fn lowered_row(row: [i64; PLACES], via: [i64; PLACES], start: i64) -> [i64; PLACES]
-    requires { ((j : ℕ) → j < places → Within far (at via j)) × Within most_chain start }
-    ensures { (j : ℕ) → j < places → at result j ≡ lower whole_bounds (start +ℤ at via j) (at row j) }
+fn lower_row(row: &mut Row, via: &Row, start: i64)
+    requires { ((j : ℕ) → j < places → Within far (at via.now j)) × Within most_chain start }
+    ensures { (j : ℕ) → j < places → at row.new j ≡ lower whole_bounds (start +ℤ at via.now j) (at row.old j) }
 {
-    let mut out = row;
-    let mut j = 0;
-    while j < PLACES {
-        let on = via[j];
-        let old = out[j];
-        out[j] = lowered(start, on, old);
-        j += 1;
+    // By an index: over a `zip` of `iter_mut` no invariant can name the row.
+    for (j, bound) in row.iter_mut().enumerate() {
+        *bound = (*bound).min(start + via[j]);
     }
-    out
 }
 
 // How many constants stand after the place i in the order.
@@ -71,12 +41,10 @@ fn stand_after(constants: usize, i: usize) -> usize
     ensures { result ≡ stand_after constants i }
 {
     if i < 1 {
-        return 0;
+        0
+    } else {
+        constants.saturating_sub(i)
     }
-    if constants < i {
-        return 0;
-    }
-    constants - i
 }
 
 // How many constants stand before the place j.
@@ -84,12 +52,10 @@ fn stand_before(constants: usize, j: usize) -> usize
     ensures { result ≡ stand_before constants j }
 {
     if constants < j {
-        return 0;
+        0
+    } else {
+        j.saturating_sub(1)
     }
-    if j < 1 {
-        return 0;
-    }
-    j - 1
 }
 
 // The bound at i and j by the constants' order alone.
@@ -98,70 +64,47 @@ fn by_order(constants: usize, i: usize, j: usize) -> i64
     ensures { result ≡ by_order constants i j }
 {
     if i == j {
-        return 0;
+        0
+    } else if 0 < i && i < j && j <= constants {
+        i as i64 - j as i64
+    } else {
+        FAR - (stand_after(constants, i) + stand_before(constants, j)) as i64
     }
-    if 0 < i && i < j && j <= constants {
-        return i as i64 - j as i64;
-    }
-    FAR - (stand_after(constants, i) + stand_before(constants, j)) as i64
 }
 
 // The bounds of the row i by the order alone.
-fn ordered_row(constants: usize, i: usize) -> [i64; PLACES]
+fn ordered_row(constants: usize, i: usize) -> Row
     requires { (constants ≤ most_constants) × (i < places) }
     ensures { (j : ℕ) → j < places → at result j ≡ by_order constants i j }
 {
-    let mut row = [0i64; PLACES];
-    let mut j = 0;
-    while j < PLACES {
-        row[j] = by_order(constants, i, j);
-        j += 1;
+    let mut row = [0; PLACES];
+    for (j, bound) in row.iter_mut().enumerate() {
+        *bound = by_order(constants, i, j);
     }
     row
 }
 
 // The square of the constants' order.
-fn ordered(constants: usize) -> [[i64; PLACES]; PLACES]
+fn ordered(constants: usize) -> [Row; PLACES]
     requires { constants ≤ most_constants }
     ensures { Stands (Ordered constants) result }
 {
-    let mut t = [[0i64; PLACES]; PLACES];
-    let mut i = 0;
-    while i < PLACES {
-        t[i] = ordered_row(constants, i);
-        i += 1;
+    let mut t = [[0; PLACES]; PLACES];
+    for (i, row) in t.iter_mut().enumerate() {
+        *row = ordered_row(constants, i);
     }
     t
 }
 
-// The same number in 64 bits.
-fn widen(c: i32) -> i64
-    ensures { result ≡ c }
-{
-    c as i64
-}
-
-// Whether c closes a chain below zero, `back` being the bound the other way.
-fn below_zero(c: i64, back: i64) -> bool
-    requires { Within most_bound c × Within far back }
-    ensures { result ≡ lt_z (c +ℤ back) (pos 0) }
-{
-    c + back < 0
-}
-
 // The lowest of the row's first n + 1 bounds
-fn lowest_of(row: [i64; PLACES], n: usize) -> i64
+#[tactic(auto, using(bounds::proofs::Lower::lowest_more), unfolding(bounds::specs::Squares::lowest))]
+fn lowest_of(row: &Row, n: usize) -> i64
     requires { n < places }
-    ensures { result ≡ lowest whole_bounds (at row) n }
+    ensures { result ≡ lowest whole_bounds (at row.now) n }
 {
     let mut low = row[0];
-    let mut j = 0;
-    while j < n {
-        j += 1;
-        let new = row[j];
-        if new < low {
-            low = new;
-        }
+    for bound in &row[1..=n] {
+        low = low.min(*bound);
     }
     low
 }
@@ -175,149 +118,86 @@ fn less_zero(own: i64, zeroth: i64) -> i32
 }
 
 // The numbers behind a yes: a place's value is the lowest bound of its row among zero and the constants.
-fn numbers_of(constants: usize, t: [[i64; PLACES]; PLACES]) -> [i32; MOST_CONSTANTS]
-    requires { (constants ≤ most_constants) × Sound t }
-    ensures { result ≡ packed_numbers (less_zero constants (values whole_bounds constants (entry t))) }
+#[tactic(auto, unfolding(lists::specs::Arrays::exactly))]
+fn numbers_of(constants: usize, t: &[Row; PLACES]) -> Numbers
+    requires { (constants ≤ most_constants) × Sound t.now }
+    ensures { result ≡ packed_numbers (less_zero constants (values whole_bounds constants (entry t.now))) }
 {
-    let mut numbers = [0i32; MOST_CONSTANTS];
-    let first = t[0];
-    let zeroth = lowest_of(first, constants);
-    let mut k = 0;
-    while k < constants {
-        let row = t[k + 1];
+    let zeroth = lowest_of(&t[0], constants);
+    let mut numbers = [0; MOST_CONSTANTS];
+    for (k, row) in t[1..=constants].iter().enumerate() {
         numbers[k] = less_zero(lowest_of(row, constants), zeroth);
-        k += 1;
     }
     numbers
 }
 
-// Whether the order and the first `count` atoms can be kept, and the numbers behind it. Each atom is put in: a row to which nothing lower
-// comes at q stays as it is. The square is changed in place, so the loop over its rows stands within that over the atoms.
-fn kept(constants: usize, count: usize, atoms: [Atom; MOST_TESTED]) -> Witness
-    requires { Accepted constants count atoms }
-    ensures { Keeping constants (take count atoms) result }
+// Whether the order and the atoms can be kept: the numbers behind it, or none. Each atom is put in: a row to which nothing lower comes at q
+// stays as it is.
+fn kept(constants: usize, atoms: &[Atom]) -> Option<Numbers>
+    requires { Accepted constants atoms.now }
+    ensures { Keeping constants atoms.now result }
 {
     let mut t = ordered(constants);
-    let mut k = 0;
-    while k < count {
-        let a = atoms[k];
-        let p = a.p as usize;
-        let q = a.q as usize;
-        let c = widen(a.c);
+    for a in atoms {
+        let p = usize::from(a.p);
+        let q = usize::from(a.q);
+        let c = i64::from(a.c);
         let back = t[q][p];
-        if below_zero(c, back) {
-            return Witness {
-                given: false,
-                numbers: [0i32; MOST_CONSTANTS],
-            };
+        if c + back < 0 {
+            return None;
         }
         if c < t[p][q] {
             let via = t[q];
-            let mut i = 0;
-            while i < PLACES {
-                let start = t[i][p] + c;
-                if start < t[i][q] {
-                    let row = t[i];
-                    t[i] = lowered_row(row, via, start);
+            for row in &mut t {
+                let start = row[p] + c;
+                if start < row[q] {
+                    lower_row(row, &via, start);
                 }
-                i += 1;
             }
         }
-        k += 1;
     }
-    let numbers = numbers_of(constants, t);
-    Witness {
-        given: true,
-        numbers: numbers,
-    }
+    Some(numbers_of(constants, &t))
 }
 
 // Whether c is from -1,000,001 to 1,000,000.
 fn in_test(c: i32) -> bool
     ensures { Decides (InTest c) result }
 {
-    if c < -MOST_DENIED {
-        return false;
-    }
-    if MOST_C < c {
-        return false;
-    }
-    true
+    (-MOST_DENIED..=MOST_C).contains(&c)
 }
 
 // Whether the atom has its places among the constants, not both 0, and c in range.
-fn proper(constants: usize, a: Atom) -> bool
-    ensures { Decides (Proper InTest constants a) result }
+fn proper(constants: usize, a: &Atom) -> bool
+    ensures { Decides (Proper InTest constants a.now) result }
 {
-    let p = a.p as usize;
-    let q = a.q as usize;
-    if constants < p {
-        return false;
-    }
-    if constants < q {
-        return false;
-    }
-    if p + q == 0 {
-        return false;
-    }
-    in_test(a.c)
+    let p = usize::from(a.p);
+    let q = usize::from(a.q);
+    p <= constants && q <= constants && 0 < p + q && in_test(a.c)
 }
 
-// The number of the first atom that is not proper, from 1; or 0.
-fn first_improper(constants: usize, count: usize, atoms: [Atom; MOST_TESTED]) -> usize
-    requires { count ≤ most_tested }
-    ensures { FirstImproper constants count atoms result }
+// The first atom that is not proper, from 0.
+fn first_improper(constants: usize, atoms: &[Atom]) -> Option<usize>
+    ensures { FirstImproper constants atoms.now result }
 {
-    let mut k = 0;
-    while k < count {
-        let a = atoms[k];
-        if !proper(constants, a) {
-            return k + 1;
-        }
-        k += 1;
-    }
-    0
+    atoms.iter().position(|a| !proper(constants, a))
 }
 
-// Refused: there are no numbers.
-fn refused(number: u8, place: u8) -> Finding
-    ensures { result ≡ refused_finding number place }
+// The constraint test: whether whole numbers exist for the constants that keep their order and make the atoms true, and which.
+pub fn possible(constants: u8, atoms: &[Atom]) -> Result<Option<Numbers>, Refused<u8>>
+    ensures { Says constants atoms.now result }
 {
-    Finding {
-        answer: Answer::Refused {
-            number: number,
-            place: place,
-        },
-        numbers: [0i32; MOST_CONSTANTS],
+    let n = usize::from(constants);
+    if n > MOST_CONSTANTS || atoms.len() > MOST_TESTED {
+        return Err(Refused {
+            refusal: Refusal::AboveLimit,
+            place: 0,
+        });
     }
-}
-
-// The constraint test: whether whole numbers exist for the constants that keep their order and make the first `count` atoms true, and which.
-pub fn possible(constants: u8, count: u8, atoms: [Atom; MOST_TESTED]) -> Finding
-    ensures { Says constants count atoms result }
-{
-    let n = constants as usize;
-    let m = count as usize;
-    if MOST_CONSTANTS < n {
-        return refused(ABOVE_LIMIT, 0);
+    if let Some(k) = first_improper(n, atoms) {
+        return Err(Refused {
+            refusal: Refusal::OutOfRange,
+            place: k as u8 + 1,
+        });
     }
-    if MOST_TESTED < m {
-        return refused(ABOVE_LIMIT, 0);
-    }
-    let bad = first_improper(n, m, atoms);
-    if 0 < bad {
-        return refused(OUT_OF_RANGE, bad as u8);
-    }
-    let witness = kept(n, m, atoms);
-    let numbers = witness.numbers;
-    if witness.given {
-        return Finding {
-            answer: Answer::Yes,
-            numbers: numbers,
-        };
-    }
-    Finding {
-        answer: Answer::No,
-        numbers: numbers,
-    }
+    Ok(kept(n, atoms))
 }

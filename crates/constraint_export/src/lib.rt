@@ -1,48 +1,56 @@
 // The constraint test for programs in C or Rust: it takes slices and answers by a number.
 #![tactic(auto)]
 
-ghost use Rattle.std.specs.Prelude.{◌≡◌, ◌≤◌, ◌<◌};
-ghost use Rattle.basis.specs.Limits.{most_constants, most_tested};
-ghost use Rattle.constraint.specs.declared.Answer.TheVariants.{Yes};
-ghost use Rattle.constraint_export.specs.Export.{atom_from, Gathered, code, with_numbers, Tells, TellsNumbers};
+ghost use Rattle.std.specs.Prelude.{◌≡◌, ◌≤◌, ◌<◌, length};
+ghost use Rattle.constraint_export.specs.Export.{most_counted, atom_from, Gathered, Found, code, noted, Tells, TellsNumbers};
 
-use basis::{Atom, MOST_CONSTANTS, MOST_TESTED};
-use constraint::Answer;
-use slices::{byte_at, word_at};
+use basis::{Atom, Numbers, Refused};
+use slices::at_or;
 
 fn atom_at(places: &[u8], bounds: &[i32], k: usize) -> Atom
-    requires { k < most_tested }
+    requires { k < most_counted }
     ensures { result ≡ atom_from places.now bounds.now k }
 {
     Atom {
-        p: byte_at(places, k + k),
-        q: byte_at(places, k + k + 1),
-        c: word_at(bounds, k),
+        p: at_or(places, k + k, 0),
+        q: at_or(places, k + k + 1, 0),
+        c: at_or(bounds, k, 0),
     }
 }
 
-// The atoms from their places, p and q by turns, and their bounds c; blank past the slices' ends.
-fn gathered(places: &[u8], bounds: &[i32]) -> [Atom; MOST_TESTED]
-    ensures { Gathered places.now bounds.now result }
+// As many atoms as there are slots for, from their places, p and q by turns, and their bounds c; blank past the slices' ends.
+fn gather(places: &[u8], bounds: &[i32], atoms: &mut [Atom])
+    requires { length atoms.old ≤ most_counted }
+    ensures { Gathered (length atoms.old) places.now bounds.now atoms.new }
 {
-    let none = Atom { p: 0, q: 0, c: 0 };
-    let mut atoms = [none; MOST_TESTED];
-    let mut k = 0;
-    while k < MOST_TESTED {
-        atoms[k] = atom_at(places, bounds, k);
-        k += 1;
+    for (k, a) in atoms.iter_mut().enumerate() {
+        *a = atom_at(places, bounds, k);
     }
-    atoms
+}
+
+// What the test answers to the first `count` atoms: it refuses more than it takes.
+fn found(
+    constants: u8,
+    count: u8,
+    places: &[u8],
+    bounds: &[i32],
+) -> Result<Option<Numbers>, Refused<u8>>
+    ensures { Found constants count places.now bounds.now result }
+{
+    let mut atoms = [Atom { p: 0, q: 0, c: 0 }; u8::MAX as usize];
+    let atoms = &mut atoms[..usize::from(count)];
+    gather(places, bounds, atoms);
+    constraint::possible(constants, atoms)
 }
 
 // 1 for yes, 0 for no, and for a refusal 256 times its number and its place.
-fn coded(answer: Answer) -> u32
+fn coded(answer: Result<Option<Numbers>, Refused<u8>>) -> u32
     ensures { result ≡ code answer }
 {
     match answer {
-        Answer::Yes => 1,
-        Answer::No => 0,
-        Answer::Refused { number, place } => (number as u32) * 256 + (place as u32),
+        Ok(Some(_)) => 1,
+        Ok(None) => 0,
+        Err(refused) => u32::from(u8::from(refused.refusal)) * 256 + u32::from(refused.place),
     }
 }
 
@@ -51,31 +59,16 @@ fn coded(answer: Answer) -> u32
 pub extern "C" fn drf_possible(constants: u8, count: u8, places: &[u8], bounds: &[i32]) -> u32
     ensures { Tells constants count places.now bounds.now result }
 {
-    let atoms = gathered(places, bounds);
-    let found = constraint::possible(constants, count, atoms);
-    let answer = found.answer;
-    coded(answer)
+    coded(found(constants, count, places, bounds))
 }
 
-// With a yes the constants' numbers in front of the slice, if it has room for them
-fn note(answer: Answer, constants: u8, numbers: [i32; MOST_CONSTANTS], out: &mut [i32])
-    requires { answer ≡ Yes → constants ≤ most_constants }
-    ensures { out.new ≡ with_numbers constants answer numbers out.old }
+// The constants' numbers in front of the slice, if it has room for them
+fn note(numbers: &[i32], out: &mut [i32])
+    ensures { out.new ≡ noted numbers.now out.old }
 {
-    match answer {
-        Answer::Yes => {
-            let n = constants as usize;
-            if out.len() < n {
-                return;
-            }
-            let mut j: usize = 0;
-            while j < n {
-                out[j] = numbers[j];
-                j += 1;
-            }
-        }
-        Answer::No => {}
-        Answer::Refused { number, place } => {}
+    let n = numbers.len();
+    if n <= out.len() {
+        out[..n].copy_from_slice(numbers);
     }
 }
 
@@ -90,10 +83,9 @@ pub extern "C" fn drf_numbers(
 ) -> u32
     ensures { TellsNumbers constants count places.now bounds.now numbers.old numbers.new result }
 {
-    let atoms = gathered(places, bounds);
-    let found = constraint::possible(constants, count, atoms);
-    let answer = found.answer;
-    let behind = found.numbers;
-    note(answer, constants, behind, numbers);
+    let answer = found(constants, count, places, bounds);
+    if let Ok(Some(behind)) = &answer {
+        note(&behind[..usize::from(constants)], numbers);
+    }
     coded(answer)
 }

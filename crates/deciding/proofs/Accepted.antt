@@ -26,6 +26,9 @@ use Rattle.reaching.proofs.Handing.{HandsBy, hands_shown}
 use Rattle.reaching.proofs.Reached.{FineState, brought_proper}
 use Rattle.testing.specs.Asked.{WitnessOf}
 use Rattle.asking.proofs.Brought.{atoms_asked, atoms_named_lem, both_true, brought_are, held_named, looked_all, right_asked}
+use Rattle.std.specs.Prelude.{Option, None, Some, ℤ}
+use Rattle.std.specs.Option.{is_some}
+use Rattle.asking.specs.Trying.{given_number}
 use Rattle.asking.specs.Looking.{count_brought, named_at}
 use Rattle.asking.specs.Steps.{decide_of, instance_of, sources_in}
 use Rattle.asking.specs.declared.Step.{Step}
@@ -33,7 +36,7 @@ use Rattle.deciding.specs.Weighing.{Weighs, atoms_named}
 use Rattle.deciding.specs.declared.Weighed.{Weighed}
 use Rattle.deciding.proofs.Weighing.{brought_long}
 
-module _ {s : State} (F : FineState s) {x : Step} {w : Weighed} (W : Weighs s x w) (none : w.number ≡ 0) where
+module _ {s : State} (F : FineState s) {x : Step} {w : Weighed} (W : Weighs s x w) (none : given_number w.refusal ≡ 0) where
   abbrev y : states.Step
   y = decide_of x
 
@@ -97,11 +100,15 @@ module _ {s : State} (F : FineState s) {x : Step} {w : Weighed} (W : Weighs s x 
       (ap (atoms_named s) (looked_all s x few) ∙ atoms_named_lem s all (T→eq (all_of (source_fits (clauses s) s.constants) all) fits))
       W.witness
 
-  given : T w.witness.given
+  given : T (is_some w.witness)
   given = asked.says.1 (record { few_constants = F.few_constants; proper = brought_proper F all fits }, met.decides.0 met.checks.1.1.1.1.1.0)
 
   pub hands : HandsBy s y w.witness
-  hands = hands_shown s y refl w.witness (T→eq w.witness.given given) (asked.shown given)
+  hands = by w.witness refl given
+    where
+      by : (v : Option (List ℤ)) → w.witness ≡ v → T (is_some w.witness) → HandsBy s y w.witness
+      by None e t = absurd (subst (λ (v : Option (List ℤ)). T (is_some v)) e t)
+      by (Some numbers) e t = subst (HandsBy s y) (sym e) (hands_shown s y refl numbers (asked.shown numbers e))
 
   pub atoms_at : (j : ℕ) → j < w.count → get_or (named_at s y).at j no_atom ≡ get_or (source_atoms (clauses s) all) j no_atom
   atoms_at j h =

@@ -8,6 +8,7 @@ use Rattle.calculus.specs.Rules.{Answer}
 use Rattle.calculus.specs.Trails.{atoms_of}
 use Rattle.trail.proofs.Stored.{recorded_once}
 use Rattle.testing.proofs.Asked.{witness_once}
+use Rattle.asking.proofs.Trying.{given_number_once}
 use Rattle.asking.specs.Looking.{atoms_looked}
 use Rattle.asking.specs.Steps.{decide_of}
 use Rattle.deciding.specs.Weighing.{WeighedOnce, Weighs, atoms_named, entry_decided}
@@ -20,9 +21,9 @@ weighed_same s x v w f g =
     let zs = atoms_looked s (decide_of x) in
     let own = recorded_once v.own w.own (entry_decided s x (length zs)) f.own g.own in
     let witness = witness_once s.constants (atoms_of s.trail ++ atoms_named s zs) v.witness w.witness f.witness g.witness in
-    let number : v.number ≡ w.number = f.number ∙ ap (λ (a : Answer). a.number) (answer_unique whole s (decide_of x) f.answer g.answer f.judged g.judged) ∙ sym g.number in
+    let refusal = given_number_once v.refusal w.refusal g.answer.number (f.number ∙ ap (λ (a : Answer). a.number) (answer_unique whole s (decide_of x) f.answer g.answer f.judged g.judged)) g.number in
     let count : v.count ≡ w.count = f.count ∙ sym g.count in
-    λ i. record { own = own i; witness = witness i; number = number i; count = count i }
+    λ i. record { own = own i; witness = witness i; refusal = refusal i; count = count i }
 
 pub weighed_once : WeighedOnce
-weighed_once trail count constants input learned stands version k n x v w (s, S, L) f g = weighed_same s x v w (f s S L) (g s S L)
+weighed_once trail constants clauses stands version k n x v w (s, S, L) f g = weighed_same s x v w (f s S L) (g s S L)

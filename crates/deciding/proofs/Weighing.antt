@@ -7,10 +7,11 @@ use mathlib.Core.Bool.{Bool, ◌&&◌, cond, false, not, true}
 use Prim.Native.Nat.{◌+◌, ◌-◌, ◌≤◌, min, suc, ℕ}
 use native.Mathlib.Omega.{arith}
 use lib.Dec.{T, leb, ltb}
-use lib.ListN.{length, length-append, length-map, take}
+use lib.ListN.{length, length-append, length-map, length-take, take}
+use lib.Seq.{take_all}
 use borrow.Author.Tests.{leb-true}
 use Rattle.basis.specs.Atoms.{Possible, no_atom}
-use Rattle.basis.specs.Limits.{most_brought, most_entries, most_input, most_learned, most_variables}
+use Rattle.basis.specs.Limits.{most_brought, most_entries, most_variables}
 use Rattle.basis.specs.Numbers.{whole}
 use Rattle.basis.specs.Refusals.{above_limit, already_defined, no_room, no_such, not_possible, out_of_range, wrong_moment}
 use Rattle.basis.specs.declared.Atom.{Atom}
@@ -29,8 +30,9 @@ use Rattle.calculus.specs.States.{State, clause_at, clauses}
 use Rattle.calculus.specs.Tests.{atoms_undefined, clause_exists, counts_few, instance_fits, literal_exists, signs_fit, source_fits}
 use Rattle.calculus.specs.Trails.{Source, Trail, atoms_of, background, decided, foreground, undefined}
 use Rattle.clauses.specs.Records.{clause_of}
-use Rattle.trail.proofs.Stored.{packed_stored}
-use Rattle.trail.specs.Entries.{Recorded, Stored, trail_of}
+use Rattle.trail.proofs.Stored.{records_say}
+use Rattle.trail.proofs.Walks.{trail_length}
+use Rattle.trail.specs.Entries.{Recorded, entries_of}
 use Rattle.trail.specs.declared.Entry.{Entry}
 use Rattle.reaching.proofs.Handing as handing
 use Rattle.reaching.proofs.Reached.{FineState, brought_proper, fine_short, reached_fine}
@@ -38,6 +40,10 @@ use Rattle.testing.specs.Asked.{SeesDecision, WitnessOf}
 use Rattle.testing.specs.declared.DecisionSeen.{DecisionSeen}
 use Rattle.asking.proofs.Brought.{atoms_named_lem, both_true, brought_are, fits_held, held_named, looked_all, looked_count, right_asked, signs_asked}
 use Rattle.asking.proofs.Finding.{held_says}
+use Rattle.std.specs.Prelude.{Option}
+use Rattle.std.specs.Option.{is_some}
+use Rattle.basis.specs.declared.Refusal.{Refusal}
+use Rattle.asking.specs.Trying.{given_number}
 use Rattle.asking.specs.Looking.{atoms_looked, count_brought, held_at}
 use Rattle.asking.specs.Steps.{decide_of, instance_of, sources_in}
 use Rattle.asking.specs.declared.Looked.{Looked}
@@ -56,23 +62,21 @@ same_test true b f g = sym (T→eq b (g.1 (f.0 tt)))
 same_test false true f g = absurd (f.1 (g.0 tt))
 same_test false false f g = refl
 
-module _ {es : List Entry} {size constants input learned : ℕ} {standing : Bool} {version : Version} {s : State} (S : PartsOf es size constants input learned standing version s) where
+module _ {es : List Entry} {constants clauses' : ℕ} {standing : Bool} {version : Version} {s : State} (S : PartsOf es constants clauses' standing version s) where
   pub fine : FineState s
   fine = reached_fine s S.reached
 
-  pub stored : Stored es size s.trail
-  stored =
-      transport (λ i. Stored (sym S.trail_is i) (sym S.count_is i) s.trail)
-      (packed_stored s.trail fine.few_entries (fine_short (clauses s) s.constants s.trail fine.entries))
+  trail_says : entries_of es ≡ s.trail
+  trail_says = ap entries_of S.trail_is ∙ records_say s.trail fine.few_entries (fine_short (clauses s) s.constants s.trail fine.entries)
 
-  pub few_entries : size ≤ most_entries
-  few_entries = stored.few
+  trail_long : length es ≡ length s.trail
+  trail_long = sym (trail_length es (length es)) ∙ ap length trail_says
 
-  pub few_clauses : (input ≤ most_input) × (learned ≤ most_learned)
-  few_clauses = (omega (arith, S.input_is, fine.few_input), omega (arith, S.learned_is, fine.few_learned))
+  pub few_entries : length es ≤ most_entries
+  few_entries = omega (arith, trail_long, fine.few_entries)
 
-  exists_is : (c : ℕ) → between 1 (input + learned) c ≡ clause_exists (clauses s) c
-  exists_is c = let n : input + learned ≡ length (clauses s) = omega (arith, S.input_is, S.learned_is, length-append s.input s.learned) in ap (λ (n : ℕ). between 1 n c) n
+  exists_is : (c : ℕ) → between 1 clauses' c ≡ clause_exists (clauses s) c
+  exists_is c = ap (λ (n : ℕ). between 1 n c) S.clauses_is
 
   module _ {k : Looked} {names : Named} {x : Step} (L : Looks k names x s) where
     abbrev y : states.Step
@@ -96,7 +100,10 @@ module _ {es : List Entry} {size constants input learned : ℕ} {standing : Bool
 
     -- What the code has seen: the literal, how many atoms there are and how many are looked at, and what they and the trail say
     module _ (long : length x.instance ≡ most_variables) {g : Literal} (g-is : g ≡ decided_literal (clause_of k.clause) (x.literal - 1) (is_one x.sign) τ) {brought n : ℕ} (brought-so : brought ≡ count_brought version x)
-        (n-so : n ≡ min most_brought (count_brought version x)) {seen : DecisionSeen} (sees : SeesDecision constants (trail_of es size) g (take n names.at) seen) where
+        (n-so : n ≡ min most_brought (count_brought version x)) {seen : DecisionSeen} (sees : SeesDecision constants (entries_of es) g (take n names.at) seen) where
+      τ-few : take most_variables τ ≡ τ
+      τ-few = take_all most_variables τ (omega (arith, length-take x.count x.instance))
+
       literal-is : g ≡ decided_literal (held_at (clauses s) x.clause) (x.literal - 1) (is_one x.sign) τ
       literal-is = g-is ∙ ap (λ (D : calculus.Clause). decided_literal D (x.literal - 1) (is_one x.sign) τ) says
 
@@ -112,7 +119,7 @@ module _ {es : List Entry} {size constants input learned : ℕ} {standing : Bool
           (λ i. take (sym counted i) (L.atoms i).at) ∙ take_exactly no_atom most_brought (atoms_named s zs) (omega (arith, counted, first-is))
 
       told : WitnessOf s.constants (atoms_of s.trail ++ atoms_named s zs) seen.witness
-      told = transport (λ i. WitnessOf (S.constants_is i) (atoms_of (stored.says i) ++ listed-is i) seen.witness) sees.witness
+      told = transport (λ i. WitnessOf (S.constants_is i) (atoms_of (trail_says i) ++ listed-is i) seen.witness) sees.witness
 
       -- ---- the number
 
@@ -135,19 +142,19 @@ module _ {es : List Entry} {size constants input learned : ℕ} {standing : Bool
           asked : WitnessOf s.constants (question s y) seen.witness
           asked = subst (λ (az : List Atom). WitnessOf s.constants (atoms_of s.trail ++ az) seen.witness) atoms_are told
 
-          decides : T seen.witness.given ↔ Possible whole s.constants (question s y)
+          decides : T (is_some seen.witness) ↔ Possible whole s.constants (question s y)
           decides = ((λ z. (asked.says.0 z).1), λ P. asked.says.1 (record { few_constants = fine.few_constants; proper = brought_proper fine all (subst T (sym f) tt) }, P))
 
-      room-is : counts_few all ≡ true → ltb (size + n) most_entries ≡ leb (length (next s y).trail) most_entries
+      room-is : counts_few all ≡ true → ltb (length es + n) most_entries ≡ leb (length (next s y).trail) most_entries
       room-is t =
-          let grown : suc (size + n) ≡ length (next s y).trail =
-          omega (arith, S.count_is, all_counted t, brought_long (clauses s) all (foreground (decided_literal C (x.literal - 1) (is_one x.sign) (instance_of x)) (decided x.clause x.literal (is_one x.sign) (instance_of x) (length all)) ∷ s.trail)) in
+          let grown : suc (length es + n) ≡ length (next s y).trail =
+          omega (arith, trail_long, all_counted t, brought_long (clauses s) all (foreground (decided_literal C (x.literal - 1) (is_one x.sign) (instance_of x)) (decided x.clause x.literal (is_one x.sign) (instance_of x) (length all)) ∷ s.trail)) in
           ap (λ (m : ℕ). leb m most_entries) grown
 
       module _ {a b d : Bool} {n₀ n₁ n₂ n₃ n₄ n₅ n₆ n₇ n₈ n₉ n₁₀ : ℕ}
-          (a-is : a ≡ (leb x.count most_variables && (between 1 (input + learned) x.clause && (literal_exists (clause_of k.clause) x.literal && instance_fits constants (clause_of k.clause) τ))))
+          (a-is : a ≡ (leb (length τ) most_variables && (between 1 clauses' x.clause && (literal_exists (clause_of k.clause) x.literal && instance_fits constants (clause_of k.clause) τ))))
           (b-is : b ≡ counts_few (sources_in brought x)) (d-is : d ≡ signs_fit (sources_in n x))
-          (e₁₀ : n₁₀ ≡ cond (ltb (size + n) most_entries) 0 no_room) (e₉ : n₉ ≡ cond seen.witness.given n₁₀ not_possible) (e₈ : n₈ ≡ cond seen.fresh n₉ already_defined) (e₇ : n₇ ≡ cond seen.free n₈ already_defined) (e₆ : n₆ ≡ cond names.right n₇ no_such)
+          (e₁₀ : n₁₀ ≡ cond (ltb (length es + n) most_entries) 0 no_room) (e₉ : n₉ ≡ cond (is_some seen.witness) n₁₀ not_possible) (e₈ : n₈ ≡ cond seen.fresh n₉ already_defined) (e₇ : n₇ ≡ cond seen.free n₈ already_defined) (e₆ : n₆ ≡ cond names.right n₇ no_such)
           (e₅ : n₅ ≡ cond a n₆ no_such) (e₄ : n₄ ≡ cond (not standing) n₅ wrong_moment) (e₃ : n₃ ≡ cond d n₄ out_of_range) (e₂ : n₂ ≡ cond (leb x.sign 1) n₃ out_of_range) (e₁ : n₁ ≡ cond b n₂ above_limit)
           (e₀ : n₀ ≡ cond (leb x.count most_variables) n₁ above_limit) where
         short-is : leb x.count most_variables ≡ leb (length (instance_of x)) most_variables
@@ -161,7 +168,7 @@ module _ {es : List Entry} {size constants input learned : ℕ} {standing : Bool
 
         named-is : leb (length (instance_of x)) most_variables ≡ true → a ≡ (clause_exists (clauses s) x.clause && (literal_exists C x.literal && instance_fits s.constants C (instance_of x)))
         named-is t =
-            a-is ∙ (λ i. (short-is ∙ t) i && (exists_is x.clause i && (literal_exists (says i) x.literal && instance_fits (S.constants_is i) (says i) (whole_is t i))))
+            a-is ∙ (λ i. (ap (λ (υ : List ℕ). leb (length υ) most_variables) (whole_is t) ∙ t) i && (exists_is x.clause i && (literal_exists (says i) x.literal && instance_fits (S.constants_is i) (says i) (whole_is t i))))
             ∙ fits_held s x.clause (λ D. literal_exists D x.literal && instance_fits s.constants D (instance_of x))
 
         right_is : counts_few all ≡ true → names.right ≡ all_of (source_fits (clauses s) s.constants) all
@@ -171,10 +178,10 @@ module _ {es : List Entry} {size constants input learned : ℕ} {standing : Bool
             → seen.free ≡ undefined s.trail (decided_literal C (x.literal - 1) (is_one x.sign) (instance_of x))
         free-is t h =
             let there = (both_true (clause_exists (clauses s) x.clause) (literal_exists C x.literal && instance_fits s.constants C (instance_of x)) h).0 in
-            sees.free ∙ (λ i. undefined (stored.says i) (literal-is i)) ∙ (λ i. undefined s.trail (decided_literal (held_named (clauses s) x.clause there i) (x.literal - 1) (is_one x.sign) (whole_is t i)))
+            sees.free ∙ (λ i. undefined (trail_says i) (literal-is i)) ∙ (λ i. undefined s.trail (decided_literal (held_named (clauses s) x.clause there i) (x.literal - 1) (is_one x.sign) (whole_is t i)))
 
         fresh-is : (t : counts_few all ≡ true) → all_of (source_fits (clauses s) s.constants) all ≡ true → seen.fresh ≡ atoms_undefined (atoms_of s.trail) (source_atoms (clauses s) all)
-        fresh-is t h = sees.fresh ∙ (λ i. atoms_undefined (atoms_of (stored.says i)) ((listed-is ∙ atoms_are t h) i))
+        fresh-is t h = sees.fresh ∙ (λ i. atoms_undefined (atoms_of (trail_says i)) ((listed-is ∙ atoms_are t h) i))
 
         number_is : (b : Bool) → T b ↔ Possible whole s.constants (question s y) → n₀ ≡ first_refusal (asks b s y)
         number_is q D =
@@ -183,19 +190,19 @@ module _ {es : List Entry} {size constants input learned : ℕ} {standing : Bool
             one (not standing) _ _ e₄ (ap not S.stands_is) (λ t₄.
             both a names.right _ _ _ e₅ e₆ (named-is t₀) (λ t₅. right_is t₁) (λ t₅ t₆.
             both seen.free seen.fresh _ _ _ e₇ e₈ (free-is t₀ t₅) (λ t₇. fresh-is t₁ t₆) (λ t₇ t₈.
-            one seen.witness.given _ _ e₉ (same_test seen.witness.given q (decides t₁ t₆) D) (λ t₉.
-            one (ltb (size + n) most_entries) _ _ e₁₀ (room-is t₁) (λ t₁₀. refl)))))))
+            one (is_some seen.witness) _ _ e₉ (same_test (is_some seen.witness) q (decides t₁ t₆) D) (λ t₉.
+            one (ltb (length es + n) most_entries) _ _ e₁₀ (room-is t₁) (λ t₁₀. refl)))))))
 
         -- ---- the whole
 
-        pub weighs : {o : Entry} → Recorded o (foreground g (decided x.clause x.literal (is_one x.sign) τ n)) → Weighs s x (record { own = o; witness = seen.witness; number = n₀; count = n })
-        weighs {o} O =
+        pub weighs : {o : Entry} → Recorded o (foreground g (decided x.clause x.literal (is_one x.sign) (take most_variables τ) n)) → {r : Option Refusal} → given_number r ≡ n₀ → Weighs s x (record { own = o; witness = seen.witness; refusal = r; count = n })
+        weighs {o} O r-is =
             let (q, D) = handing.decided s y in
             record {
               answer = answer q s y;
               judged = judged_by whole q s y D;
-              number = number_is q D;
+              number = r-is ∙ number_is q D;
               count = count_is;
-              own = transport (λ i. Recorded o (foreground (literal-is i) (decided x.clause x.literal (is_one x.sign) τ (count_is i)))) O;
+              own = transport (λ i. Recorded o (foreground (literal-is i) (decided x.clause x.literal (is_one x.sign) (τ-few i) (count_is i)))) O;
               witness = told;
             }

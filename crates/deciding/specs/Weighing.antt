@@ -1,5 +1,5 @@
 -- What Decide's weighing is shown of a state, and what it answers.
-use Rattle.std.specs.Prelude.{◌≡◌, List, ◌++◌, map, Bool, ℕ, ◌-◌, length, take}
+use Rattle.std.specs.Prelude.{◌≡◌, List, ◌++◌, map, reverse, Bool, ℕ, ◌-◌, length, take}
 use Rattle.basis.specs.Numbers.{whole}
 use Rattle.basis.specs.declared.Atom.{Atom}
 use Rattle.basis.specs.declared.Version.{Version}
@@ -10,9 +10,10 @@ use Rattle.calculus.specs.States as states
 use Rattle.calculus.specs.States.{State, clauses}
 use Rattle.calculus.specs.Trails as calculus
 use Rattle.calculus.specs.Trails.{Source, atoms_of, foreground, decided}
-use Rattle.trail.specs.Entries.{Recorded, packed_trail}
+use Rattle.trail.specs.Entries.{Recorded, packed_entry}
 use Rattle.trail.specs.declared.Entry.{Entry}
 use Rattle.testing.specs.Asked.{WitnessOf}
+use Rattle.asking.specs.Trying.{given_number}
 use Rattle.asking.specs.Looking.{atoms_looked, held_at, looked_at, named_at}
 use Rattle.asking.specs.Steps.{decide_of}
 use Rattle.asking.specs.declared.Looked.{Looked}
@@ -20,15 +21,13 @@ use Rattle.asking.specs.declared.Named.{Named}
 use Rattle.asking.specs.declared.Step.{Step}
 use Rattle.deciding.specs.declared.Weighed.{Weighed}
 
--- These are a state's, and it was reached: its trail as an array with its length, how many constants, input clauses and learned ones it has,
--- whether a conflict stands, and its version.
-pub record PartsOf (trail : List Entry) (count constants input learned : ℕ) (stands : Bool) (version : Version) (s : State) : Type 0 where
+-- These are a state's, and it was reached: the records of its trail's entries, how many constants and clauses it has, whether
+-- a conflict stands, and its version.
+pub record PartsOf (trail : List Entry) (constants clauses : ℕ) (stands : Bool) (version : Version) (s : State) : Type 0 where
   pub reached : Reached (plain whole) s
-  pub trail_is : trail ≡ packed_trail s.trail
-  pub count_is : count ≡ length s.trail
+  pub trail_is : trail ≡ map packed_entry (reverse s.trail)
   pub constants_is : constants ≡ s.constants
-  pub input_is : input ≡ length s.input
-  pub learned_is : learned ≡ length s.learned
+  pub clauses_is : clauses ≡ length (states.clauses s)
   pub stands_is : stands ≡ states.stands s.conflict
   pub version_is : version ≡ s.version
 
@@ -52,20 +51,20 @@ entry_decided s x n =
 pub record Weighs (s : State) (x : Step) (w : Weighed) : Type 0 where
   pub answer : Answer
   pub judged : Judged whole s (decide_of x) answer
-  pub number : w.number ≡ answer.number
+  pub number : given_number w.refusal ≡ answer.number
   pub count : w.count ≡ length (atoms_looked s (decide_of x))
   pub own : Recorded w.own (entry_decided s x (length (atoms_looked s (decide_of x))))
   pub witness : WitnessOf s.constants (atoms_of s.trail ++ atoms_named s (atoms_looked s (decide_of x))) w.witness
 
 -- Taken for granted: these are those of a state reached, and of what a Decide looks at there. Promised: what is weighed, of every such state.
-abbrev pub Offered : List Entry → (count constants input learned : ℕ) → Bool → Version → Looked → Named → Step → Type 0
-Offered trail count constants input learned stands version k n x = (s : State) × PartsOf trail count constants input learned stands version s × Looks k n x s
+abbrev pub Offered : List Entry → (constants clauses : ℕ) → Bool → Version → Looked → Named → Step → Type 0
+Offered trail constants clauses stands version k n x = (s : State) × PartsOf trail constants clauses stands version s × Looks k n x s
 
-abbrev pub WeighsAll : List Entry → (count constants input learned : ℕ) → Bool → Version → Looked → Named → Step → Weighed → Type 0
-WeighsAll trail count constants input learned stands version k n x w = (s : State) → PartsOf trail count constants input learned stands version s → Looks k n x s → Weighs s x w
+abbrev pub WeighsAll : List Entry → (constants clauses : ℕ) → Bool → Version → Looked → Named → Step → Weighed → Type 0
+WeighsAll trail constants clauses stands version k n x w = (s : State) → PartsOf trail constants clauses stands version s → Looks k n x s → Weighs s x w
 
 -- It is unique. Proved in proofs/Once.antt.
 abbrev pub WeighedOnce : Type 0
-WeighedOnce = (trail : List Entry) (count constants input learned : ℕ) (stands : Bool) (version : Version) (k : Looked) (n : Named) (x : Step) (v w : Weighed)
-    → Offered trail count constants input learned stands version k n x → WeighsAll trail count constants input learned stands version k n x v
-    → WeighsAll trail count constants input learned stands version k n x w → v ≡ w
+WeighedOnce = (trail : List Entry) (constants clauses : ℕ) (stands : Bool) (version : Version) (k : Looked) (n : Named) (x : Step) (v w : Weighed)
+    → Offered trail constants clauses stands version k n x → WeighsAll trail constants clauses stands version k n x v
+    → WeighsAll trail constants clauses stands version k n x w → v ≡ w

@@ -1,14 +1,13 @@
 -- Answers as numbers, and what the exported functions promise: the numbers of the answer that is so.
-use Rattle.std.specs.Prelude.{◌≡◌, ◌⊎◌, List, [], ◌∷◌, cond, ℕ, zero, suc, ◌+◌, ◌*◌, ◌/◌, ◌%◌, ◌≤◌, leb, ℤ, length}
+use Rattle.std.specs.Prelude.{◌≡◌, ◌⊎◌, List, [], ◌∷◌, cond, ℕ, zero, suc, ◌+◌, ◌*◌, ◌/◌, ◌%◌, ◌≤◌, leb, ℤ, length, Result, Ok, Err}
 use Rattle.std.proofs.lemmas.List.Edits.{sets}
-use Rattle.basis.specs.Refusals.{too_many_rows}
+use Rattle.basis.specs.Refusals.{number_of, too_many_rows}
+use Rattle.basis.specs.declared.Refused.{Refused}
 use Rattle.judging.specs.Judging.{Lists, Shows, ShowsNumbers}
 use Rattle.judging.specs.declared.Written.{Written}
 use Rattle.judging.specs.declared.Written.TheVariants.{Bytes, Short}
 use Rattle.lookup.specs.declared.Match.{Match}
 use Rattle.lookup.specs.declared.Match.TheVariants.{Exact, Approximate}
-use Rattle.lookup.specs.declared.Tabled.{Tabled}
-use Rattle.lookup.specs.declared.Tabled.TheVariants as tabled
 use Rattle.lookup.specs.Making.{Makes}
 use Rattle.lookup.specs.Claims.{most_table_bytes}
 
@@ -54,13 +53,13 @@ match_of zero = Exact
 match_of (suc n) = Approximate
 
 -- How many bytes were written; for a refusal 256 times its number, plus its place
-abbrev pub table_code : Tabled → ℕ
-table_code (tabled.Bytes n) = n
-table_code (tabled.Refused number place) = number * 256 + place
+abbrev pub table_code : Result ℕ (Refused ℕ) → ℕ
+table_code (Ok n) = n
+table_code (Err r) = number_of r.refusal * 256 + r.place
 
 -- `drf_table` of a table, with the buffer d
 abbrev pub Tables : (keys results : List ℤ) → ℕ → (d d' : List ℕ) → ℕ → Type 0
-Tables keys results a d d' r = (m : Tabled) × Makes keys results (match_of a) d d' m × (r ≡ table_code m)
+Tables keys results a d d' r = (m : Result ℕ (Refused ℕ)) × Makes keys results (match_of a) d d' m × (r ≡ table_code m)
 
 -- The number, and what every lent byte holds afterwards, are unique. Proved in proofs/Unique.antt.
 abbrev pub TablesOnce : Type 0
@@ -75,4 +74,5 @@ least_refused = too_many_rows * 256
 abbrev pub CodeTells : Type 0
 CodeTells =
     (keys results : List ℤ) (a : ℕ) (d d' : List ℕ) (r : ℕ) → Tables keys results a d d' r
-    → ((r ≤ most_table_bytes) × Makes keys results (match_of a) d d' (tabled.Bytes r)) ⊎ ((least_refused ≤ r) × Makes keys results (match_of a) d d' (tabled.Refused (r / 256) (r % 256)))
+    → ((r ≤ most_table_bytes) × Makes keys results (match_of a) d d' (Ok r))
+    ⊎ ((least_refused ≤ r) × (e : Refused ℕ) × (number_of e.refusal ≡ r / 256) × (e.place ≡ r % 256) × Makes keys results (match_of a) d d' (Err e))

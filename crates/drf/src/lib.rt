@@ -4,8 +4,9 @@
 ghost use Rattle.std.specs.Prelude.{◌≡◌, ◌<◌};
 ghost use Rattle.drf.specs.Export.{Inspects, InspectsNumbers, Judges, Tables, count, match_of, noted, table_code};
 
+use basis::Refused;
 use judging::Written;
-use lookup::{Match, Tabled};
+use lookup::Match;
 
 // ---- judging
 
@@ -13,11 +14,7 @@ fn counted(answer: Written) -> u64
     ensures { result ≡ count answer }
 {
     match answer {
-        Written::Bytes {
-            count,
-            number,
-            place,
-        } => count as u64,
+        Written::Bytes { count, .. } => count as u64,
         Written::Short => 0,
     }
 }
@@ -26,19 +23,12 @@ fn counted(answer: Written) -> u64
 fn note(answer: Written, out: &mut [u64])
     ensures { out.new ≡ noted answer out.old }
 {
-    match answer {
-        Written::Bytes {
-            count,
-            number,
-            place,
-        } => {
-            if out.len() < 2 {
-                return;
-            }
-            out[0] = number as u64;
-            out[1] = place as u64;
+    if let Written::Bytes { number, place, .. } = answer {
+        if out.len() < 2 {
+            return;
         }
-        Written::Short => {}
+        out[0] = u64::from(number);
+        out[1] = place as u64;
     }
 }
 
@@ -78,18 +68,19 @@ fn match_of(approximate: u8) -> Match
     ensures { result ≡ match_of approximate }
 {
     if approximate == 0 {
-        return Match::Exact;
+        Match::Exact
+    } else {
+        Match::Approximate
     }
-    Match::Approximate
 }
 
-fn table_code(made: Tabled) -> u32
+fn table_code(made: Result<usize, Refused<u8>>) -> u32
     requires { table_code made < 65536 }
     ensures { result ≡ table_code made }
 {
     match made {
-        Tabled::Bytes { count } => count as u32,
-        Tabled::Refused { number, place } => (number as u32) * 256 + (place as u32),
+        Ok(count) => count as u32,
+        Err(Refused { refusal, place }) => { u32::from(u8::from(refusal)) * 256 + u32::from(place) }
     }
 }
 
@@ -98,6 +89,5 @@ fn table_code(made: Tabled) -> u32
 pub extern "C" fn drf_table(keys: &[i32], results: &[i32], approximate: u8, out: &mut [u8]) -> u32
     ensures { Tables keys.now results.now approximate out.old out.new result }
 {
-    let made = lookup::clauses_from(keys, results, match_of(approximate), out);
-    table_code(made)
+    table_code(lookup::clauses_from(keys, results, match_of(approximate), out))
 }

@@ -1,301 +1,198 @@
-// Reading a run file from a lent slice of bytes. A cursor goes by value: the place reached, or the refusal that ended the reading,
-// after which nothing more is read.
+// Reading a run file from a lent slice of bytes. A reader is handed the place at which it begins; it gives a value and the place after it, or the
+// refusal that ends the reading, with its place. The slice and the place stay two parameters: they are the two that each definition of a reading has,
+// and a struct of both would be taken apart in each promise (`read result ≡ f s.now at`).
 #![tactic(auto)]
 
-ghost use Rattle.std.specs.Prelude.{◌≡◌, ◌+◌, ◌≤◌, ◌<◌, leb, pos, length, take, drop};
-ghost use Rattle.lists.specs.Lists.{same_list};
-ghost use Rattle.basis.specs.declared.Version.TheVariants.{One};
-ghost use Rattle.calculus.specs.Checks.{between};
+ghost use Rattle.std.specs.Prelude.{◌≡◌, ◌≤◌, IfOk, length};
+ghost use Rattle.basis.specs.Refusals.{number_of};
 ghost use Rattle.runfile.specs.Readers.{field};
 ghost use Rattle.runfile.specs.File.{little_endian, number, byte, count, within, second, constant, rule, letters, mark, version, most_steps, step_count};
-ghost use Rattle.fields.specs.Views.{Told, after, ranged, reached, viewed, refused_from};
+ghost use Rattle.fields.specs.Views.{Described, ReadsEach, marked, passed, ranged, read, read_as, rule_read};
 
-use basis::{ABOVE_LIMIT, ENDS_INSIDE, OUT_OF_RANGE, UNKNOWN_RULE, Version, WRONG_MARK};
+use basis::{MOST_C, Refusal, Refused, Rule, Version};
+use lists::Held;
 
 // "The number of steps (16 bits, at most 2,000)"
 const MOST_STEPS: u32 = 2000;
 
-// The place reached; or a refusal's number and its place.
-#[derive(Clone, Copy)]
-pub enum Cursor {
-    At { place: usize },
-    Refused { number: u8, place: usize },
-}
+// A value and the place after it; or a refusal and its place.
+pub type Read<T> = Result<(T, usize), Refused<usize>>;
 
-// A number of one byte
-#[derive(Clone, Copy)]
-pub struct Byte {
-    pub value: u8,
-    pub at: Cursor,
-}
-
-// A number of two or four bytes
-#[derive(Clone, Copy)]
-pub struct Wide {
-    pub value: u32,
-    pub at: Cursor,
-}
-
-// A version, and the cursor after it
-#[derive(Clone, Copy)]
-pub struct VersionRead {
-    pub version: Version,
-    pub at: Cursor,
-}
-
-// The number c of an atom
-#[derive(Clone, Copy)]
-pub struct Constant {
-    pub value: i32,
-    pub at: Cursor,
-}
-
-// Whether n bytes stand at i.
-fn fits(s: &[u8], i: usize, n: usize) -> bool
-    ensures { result ≡ leb (i + n) (length s.now) }
+// What was read, if it passes; else it is refused where it began.
+fn passed<T: Copy>(ok: bool, value: T, next: usize, refusal: Refusal, at: usize) -> Read<T>
+    ensures { result ≡ passed ok value next refusal at }
 {
-    if s.len() < n {
-        return false;
-    }
-    if s.len() - n < i {
-        return false;
-    }
-    true
-}
-
-// The cursor after a field of n bytes
-fn past(s: &[u8], at: Cursor, n: usize) -> Cursor
-    ensures { result ≡ reached (after at (field n s.now)) }
-{
-    match at {
-        Cursor::At { place } => {
-            if fits(s, place, n) {
-                return Cursor::At { place: place + n };
-            }
-            Cursor::Refused {
-                number: ENDS_INSIDE,
-                place: place,
-            }
-        }
-        Cursor::Refused { number, place } => at,
+    if ok {
+        Ok((value, next))
+    } else {
+        Err(Refused { refusal, place: at })
     }
 }
 
-// One byte
-pub fn byte_at(s: &[u8], at: Cursor) -> Byte
-    ensures { Told 0 result.at result.value (after at (byte s.now)) }
+// A field of n bytes
+fn field_at(s: &[u8], at: usize, n: usize) -> Read<&[u8]>
+    ensures reads { read_as (λ b. b.now) result ≡ field n s.now at }
+    ensures whole { IfOk result (λ r. length r.0.now ≡ n) }
 {
-    let end = past(s, at, 1);
-    if let Cursor::At { place: next } = end {
-        return Byte {
-            value: s[next - 1],
-            at: end,
-        };
+    if n <= s.len() && at <= s.len() - n {
+        Ok((&s[at..at + n], at + n))
+    } else {
+        Err(Refused {
+            refusal: Refusal::EndsInside,
+            place: at,
+        })
     }
-    Byte { value: 0, at: end }
 }
 
-fn widened(x: u8) -> u32
-    ensures { (result ≡ x) × (result < 256) }
+// The number that bytes make, the lowest first
+fn joined(bytes: &[u8]) -> u32
+    requires { length bytes.now ≤ 4 }
+    ensures { result ≡ little_endian bytes.now }
 {
-    x as u32
-}
-
-// The number that n bytes at i make, the lowest first
-fn word(s: &[u8], i: usize, n: usize) -> u32
-    requires { (i + n ≤ length s.now) × (n ≤ 4) }
-    ensures { result ≡ little_endian (take n (drop i s.now)) }
-{
-    let mut value: u32 = 0;
-    let mut j: usize = 0;
-    while j < n {
-        let k = n - 1 - j;
-        value = widened(s[i + k]) + 256 * value;
-        j += 1;
-    }
-    value
+    let mut all = [0; 4];
+    all[..bytes.len()].copy_from_slice(bytes);
+    u32::from_le_bytes(all)
 }
 
 // The number of a field of n bytes
-fn number_at(s: &[u8], at: Cursor, n: usize) -> Wide
+fn number_at(s: &[u8], at: usize, n: usize) -> Read<u32>
     requires { n ≤ 4 }
-    ensures { Told 0 result.at result.value (after at (number n s.now)) }
+    ensures { read result ≡ number n s.now at }
 {
-    let end = past(s, at, n);
-    if let Cursor::At { place: next } = end {
-        return Wide {
-            value: word(s, next - n, n),
-            at: end,
-        };
-    }
-    Wide { value: 0, at: end }
+    let (bytes, next) = field_at(s, at, n)?;
+    Ok((joined(bytes), next))
 }
 
-// What began at `start` and ended at `end`, refused where it began; an earlier refusal stays.
-pub fn refuse(start: Cursor, end: Cursor, number: u8) -> Cursor
-    ensures { result ≡ refused_from start end number }
+// One byte
+pub fn byte_at(s: &[u8], at: usize) -> Read<u8>
+    ensures { read result ≡ byte s.now at }
 {
-    if let Cursor::At { place: first } = start {
-        if let Cursor::At { place: next } = end {
-            return Cursor::Refused {
-                number: number,
-                place: first,
-            };
-        }
-        return end;
-    }
-    start
-}
-
-fn in_range(x: usize, least: usize, most: usize) -> bool
-    ensures { result ≡ between least most x }
-{
-    if x < least {
-        return false;
-    }
-    x <= most
+    let (bytes, next) = field_at(s, at, 1)?;
+    Ok((bytes[0], next))
 }
 
 // A number from least to most; any other is refused where it stands.
-fn ranged_at(s: &[u8], at: Cursor, least: usize, most: usize, number: u8) -> Byte
-    requires { 1 ≤ number }
-    ensures { Told 0 result.at result.value (after at (ranged least most number s.now)) × (result.value ≤ most) }
+fn ranged_at(s: &[u8], at: usize, least: usize, most: usize, refusal: Refusal) -> Read<u8>
+    ensures { read result ≡ ranged least most (number_of refusal) s.now at }
 {
-    let read = byte_at(s, at);
-    let value = read.value;
-    if in_range(value as usize, least, most) {
-        return read;
-    }
-    let end = read.at;
-    Byte {
-        value: 0,
-        at: refuse(at, end, number),
-    }
+    let (value, next) = byte_at(s, at)?;
+    let ok = (least..=most).contains(&usize::from(value));
+    passed(ok, value, next, refusal, at)
 }
 
 // A count, at most so many
-pub fn count_at(s: &[u8], at: Cursor, most: usize) -> Byte
-    ensures { Told 0 result.at result.value (after at (count most s.now)) × (result.value ≤ most) }
+pub fn count_at(s: &[u8], at: usize, most: usize) -> Read<u8>
+    ensures reads { read result ≡ count most s.now at }
+    ensures few { IfOk result (λ r. r.0 ≤ most) }
 {
-    ranged_at(s, at, 0, most, ABOVE_LIMIT)
+    ranged_at(s, at, 0, most, Refusal::AboveLimit)
 }
 
 // A number in its range
-pub fn within_at(s: &[u8], at: Cursor, least: u8, most: u8) -> Byte
-    ensures { Told 0 result.at result.value (after at (within least most s.now)) }
+pub fn within_at(s: &[u8], at: usize, least: u8, most: u8) -> Read<u8>
+    ensures { read result ≡ within least most s.now at }
 {
-    ranged_at(s, at, least as usize, most as usize, OUT_OF_RANGE)
+    ranged_at(
+        s,
+        at,
+        usize::from(least),
+        usize::from(most),
+        Refusal::OutOfRange,
+    )
 }
 
 // The second place of an atom whose first is p; they are not both 0.
-pub fn second_at(s: &[u8], at: Cursor, v: u8, p: u8) -> Byte
-    ensures { Told 0 result.at result.value (after at (second v p s.now)) }
+pub fn second_at(s: &[u8], at: usize, v: u8, p: u8) -> Read<u8>
+    ensures { read result ≡ second v p s.now at }
 {
-    if p == 0 {
-        return within_at(s, at, 1, v);
-    }
-    within_at(s, at, 0, v)
+    within_at(s, at, u8::from(p == 0), v)
 }
 
 // The number c of an atom
-pub fn constant_at(s: &[u8], at: Cursor) -> Constant
-    ensures { Told (pos 0) result.at result.value (after at (constant s.now)) }
+pub fn constant_at(s: &[u8], at: usize) -> Read<i32>
+    ensures { read result ≡ constant s.now at }
 {
-    let read = number_at(s, at, 4);
-    let value = read.value;
-    let end = read.at;
-    if value <= 1_000_000 {
-        return Constant {
-            value: value as i32,
-            at: end,
-        };
-    }
-    if 4_293_967_296 <= value {
-        let below = 4_294_967_295 - value;
-        return Constant {
-            value: -1 - (below as i32),
-            at: end,
-        };
-    }
-    Constant {
-        value: 0,
-        at: refuse(at, end, OUT_OF_RANGE),
-    }
+    let (value, next) = number_at(s, at, 4)?;
+    let c = value.cast_signed();
+    let ok = (-MOST_C..=MOST_C).contains(&c);
+    passed(ok, c, next, Refusal::OutOfRange, at)
 }
 
-// The number of a rule
-pub fn rule_at(s: &[u8], at: Cursor) -> Byte
-    ensures { Told 0 result.at result.value (after at (rule s.now)) }
+// A rule, by its number
+pub fn rule_at(s: &[u8], at: usize) -> Read<Rule>
+    ensures { rule_read result ≡ rule s.now at }
 {
-    ranged_at(s, at, 1, 8, UNKNOWN_RULE)
+    let (value, next) = byte_at(s, at)?;
+    match Rule::try_from(value) {
+        Ok(rule) => Ok((rule, next)),
+        Err(_) => Err(Refused {
+            refusal: Refusal::UnknownRule,
+            place: at,
+        }),
+    }
 }
 
 // The number of steps
-pub fn step_count_at(s: &[u8], at: Cursor) -> Wide
-    ensures { Told 0 result.at result.value (after at (step_count s.now)) × (result.value ≤ most_steps) }
+pub fn step_count_at(s: &[u8], at: usize) -> Read<u32>
+    ensures reads { read result ≡ step_count s.now at }
+    ensures few { IfOk result (λ r. r.0 ≤ most_steps) }
 {
-    let read = number_at(s, at, 2);
-    let end = read.at;
-    if read.value <= MOST_STEPS {
-        return read;
-    }
-    Wide {
-        value: 0,
-        at: refuse(at, end, ABOVE_LIMIT),
-    }
+    let (value, next) = number_at(s, at, 2)?;
+    passed(value <= MOST_STEPS, value, next, Refusal::AboveLimit, at)
 }
 
 // The version
-pub fn version_at(s: &[u8], at: Cursor) -> VersionRead
-    ensures { Told One result.at result.version (after at (version s.now)) }
+pub fn version_at(s: &[u8], at: usize) -> Read<Version>
+    ensures { read result ≡ version s.now at }
 {
-    let read = number_at(s, at, 2);
-    let end = read.at;
-    let first = Version::One;
-    if read.value == 1 {
-        return VersionRead {
-            version: first,
-            at: end,
-        };
+    let (value, next) = number_at(s, at, 2)?;
+    match value {
+        1 => Ok((Version::One, next)),
+        2 => Ok((Version::Two, next)),
+        _ => Err(Refused {
+            refusal: Refusal::WrongMark,
+            place: at,
+        }),
     }
-    if read.value == 2 {
-        let second = Version::Two;
-        return VersionRead {
-            version: second,
-            at: end,
-        };
-    }
-    VersionRead {
-        version: first,
-        at: refuse(at, end, WRONG_MARK),
-    }
-}
-
-// Whether the bytes b stand in s from i on.
-fn same_at(s: &[u8], i: usize, b: &[u8]) -> bool
-    requires { i + length b.now ≤ length s.now }
-    ensures { result ≡ same_list (take (length b.now) (drop i s.now)) b.now }
-{
-    let mut j: usize = 0;
-    while j < b.len() {
-        if s[i + j] != b[j] {
-            return false;
-        }
-        j += 1;
-    }
-    true
 }
 
 // The mark
-pub fn mark_at(s: &[u8], at: Cursor) -> Cursor
-    ensures { viewed result letters ≡ after at (mark s.now) }
+pub fn mark_at(s: &[u8], at: usize) -> Read<()>
+    ensures { marked result ≡ mark s.now at }
 {
-    let end = past(s, at, 3);
-    if let Cursor::At { place: next } = end {
-        if same_at(s, next - 3, b"DRF") {
-            return end;
-        }
-        return refuse(at, end, WRONG_MARK);
+    let (bytes, next) = field_at(s, at, 3)?;
+    let ok = bytes == b"DRF".as_slice();
+    passed(ok, (), next, Refusal::WrongMark, at)
+}
+
+// ---- what is read several times
+
+// n values, one after the other, each read from the place that `one` is handed, as a reading of the definition describes it
+pub fn several<T: Copy, const N: usize, F: Fn(usize) -> Read<T>>(
+    at: usize,
+    n: u8,
+    blank: T,
+    one: F,
+) -> Read<Held<T, N>>
+    requires call { F.IsAlwaysCallable one }
+    requires room { n ≤ N }
+    requires described { Described (F.post one) }
+    ensures reads { ReadsEach (F.post one) N blank n at result }
+    ensures few { IfOk result (λ r. r.0.n ≡ n) }
+{
+    let count = usize::from(n);
+    let mut values = [blank; N];
+    let mut past = at;
+    for j in 0..count {
+        let (value, next) = one(past)?;
+        values[j] = value;
+        past = next;
     }
-    end
+    Ok((
+        Held {
+            n: count,
+            at: values,
+        },
+        past,
+    ))
 }

@@ -1,396 +1,186 @@
 // Reading what stands before the first step of a run file: its version, constants, predicates with arities, input clauses, the number of steps.
 #![tactic(auto)]
 
-ghost use Rattle.std.specs.Prelude.{map, ◌≡◌, ◌≤◌};
+ghost use Rattle.std.specs.Prelude.{◌≡◌, ◌≤◌, length};
 ghost use Rattle.basis.specs.Atoms.{no_atom};
-ghost use Rattle.basis.specs.Limits.{most_atoms, most_clauses, most_literals, most_predicates, most_arguments};
-ghost use Rattle.lists.specs.Arrays.{exactly};
-ghost use Rattle.calculus.specs.Clauses.{no_clause, no_literal};
-ghost use Rattle.clauses.specs.Records.{clause_of, packed};
-ghost use Rattle.runfile.specs.Readers.{bad, times};
+ghost use Rattle.basis.specs.Limits.{most_atoms, most_input, most_literals, most_predicates, most_arguments};
+ghost use Rattle.lists.specs.Arrays.{exactly, held};
+ghost use Rattle.calculus.specs.Clauses.{no_literal};
+ghost use Rattle.clauses.specs.Records.{packed};
+ghost use Rattle.runfile.specs.Readers.{times};
 ghost use Rattle.runfile.specs.File.{count, atom, argument, literal, clause_fields, clause, header};
-ghost use Rattle.fields.specs.Views.{Fills, after, reached, viewed};
-ghost use Rattle.header.specs.Records.{Fronts, Padded, arities, input_of, packed_header};
+ghost use Rattle.fields.specs.Views.{read, read_as};
+ghost use Rattle.header.specs.Records.{input_of, kept, kept_beside, laid, packed_table, read_beside, seen};
 
 use admission::{admit_clause, arity_of};
 use basis::{
     Atom, Literal, MOST_ARGUMENTS, MOST_ATOMS, MOST_CLAUSES, MOST_CONSTANTS, MOST_INPUT,
-    MOST_LITERALS, MOST_PREDICATES, MOST_VARIABLES, Version,
+    MOST_LITERALS, MOST_PREDICATES, MOST_VARIABLES, Refused, Version,
 };
 use clauses::{Clause, no_atom, no_clause, no_literal};
 use fields::{
-    Byte, Cursor, constant_at, count_at, mark_at, refuse, second_at, step_count_at, version_at,
-    within_at,
+    Read, constant_at, count_at, mark_at, second_at, several, step_count_at, version_at, within_at,
 };
+use lists::Held;
 
-// Predicates with an arity each; slots past the count are 0.
+// What is kept of what stands before the first step: all but the clauses
 #[derive(Clone, Copy)]
-pub struct Predicates {
-    pub count: u8,
-    pub arities: [u8; MOST_PREDICATES],
-}
-
-#[derive(Clone, Copy)]
-struct PredicatesRead {
-    predicates: Predicates,
-    at: Cursor,
-}
-
-#[derive(Clone, Copy)]
-struct AtomRead {
-    atom: Atom,
-    at: Cursor,
-}
-
-#[derive(Clone, Copy)]
-struct AtomsRead {
-    atoms: [Atom; MOST_ATOMS],
-    at: Cursor,
-}
-
-#[derive(Clone, Copy)]
-struct LiteralRead {
-    literal: Literal,
-    at: Cursor,
-}
-
-#[derive(Clone, Copy)]
-struct LiteralsRead {
-    literals: [Literal; MOST_LITERALS],
-    at: Cursor,
-}
-
-#[derive(Clone, Copy)]
-struct ClauseRead {
-    clause: Clause,
-    at: Cursor,
-}
-
-// What stands before the input clauses, their number included, and the cursor there
-#[derive(Clone, Copy)]
-struct Front {
-    version: Version,
-    constants: u8,
-    predicates: Predicates,
-    input: u8,
-    at: Cursor,
-}
-
-// What stands before the first step but the clauses themselves, and the cursor there; blank where the file is refused before.
-#[derive(Clone, Copy)]
-pub struct HeaderRead {
+pub struct Header {
     pub version: Version,
     pub constants: u8,
-    pub predicates: Predicates,
+    pub arities: Held<u8, MOST_PREDICATES>,
     pub input: u8,
     pub steps: u32,
-    pub at: Cursor,
 }
 
 // ---- atoms
 
-fn atom_at(s: &[u8], at: Cursor, v: u8) -> AtomRead
-    ensures { viewed result.at result.atom ≡ after at (atom v s.now) }
+#[tactic(auto, unfolding(runfile::specs::File::atom))]
+fn atom_at(s: &[u8], at: usize, v: u8) -> Read<Atom>
+    ensures { read result ≡ atom v s.now at }
 {
-    let p = within_at(s, at, 0, v);
-    let past_p = p.at;
-    let q = second_at(s, past_p, v, p.value);
-    let past_q = q.at;
-    let c = constant_at(s, past_q);
-    let past_c = c.at;
-    let atom = Atom {
-        p: p.value,
-        q: q.value,
-        c: c.value,
-    };
-    AtomRead {
-        atom: atom,
-        at: past_c,
-    }
-}
-
-fn atoms_at(s: &[u8], at: Cursor, n: u8, v: u8) -> AtomsRead
-    requires { n ≤ most_atoms }
-    ensures { Fills most_atoms no_atom s.now (atom v) n at result.at result.atoms }
-{
-    let none = no_atom();
-    let count = n as usize;
-    let mut atoms = [none; MOST_ATOMS];
-    let mut end = at;
-    let mut j: usize = 0;
-    while j < count {
-        let read = atom_at(s, end, v);
-        let a = read.atom;
-        let next = read.at;
-        atoms[j] = a;
-        end = next;
-        j += 1;
-    }
-    AtomsRead {
-        atoms: atoms,
-        at: end,
-    }
+    let (p, at) = within_at(s, at, 0, v)?;
+    let (q, at) = second_at(s, at, v, p)?;
+    let (c, at) = constant_at(s, at)?;
+    Ok((Atom { p, q, c }, at))
 }
 
 // ---- literals
 
 // The kth of n arguments; 0 past the last
-fn argument_at(s: &[u8], at: Cursor, v: u8, n: u8, k: u8) -> Byte
-    ensures { viewed result.at result.value ≡ after at (argument v n k s.now) }
+fn argument_at(s: &[u8], at: usize, v: u8, n: u8, k: u8) -> Read<u8>
+    ensures { read result ≡ argument v n k s.now at }
 {
     if k <= n {
-        return within_at(s, at, 1, v);
-    }
-    Byte { value: 0, at: at }
-}
-
-fn literal_at(s: &[u8], at: Cursor, ps: Predicates, v: u8) -> LiteralRead
-    requires { Padded ps }
-    ensures { viewed result.at result.literal ≡ after at (literal (arities ps) v s.now) }
-{
-    let sign = within_at(s, at, 0, 1);
-    let past_sign = sign.at;
-    let predicate = within_at(s, past_sign, 1, ps.count);
-    let past_predicate = predicate.at;
-    let slots = ps.arities;
-    let n = arity_of(ps.count, slots, predicate.value);
-    let x = argument_at(s, past_predicate, v, n, 1);
-    let past_x = x.at;
-    let y = argument_at(s, past_x, v, n, 2);
-    let past_y = y.at;
-    let z = argument_at(s, past_y, v, n, 3);
-    let past_z = z.at;
-    let literal = Literal {
-        positive: sign.value == 1,
-        predicate: predicate.value,
-        x: x.value,
-        y: y.value,
-        z: z.value,
-    };
-    LiteralRead {
-        literal: literal,
-        at: past_z,
+        within_at(s, at, 1, v)
+    } else {
+        Ok((0, at))
     }
 }
 
-fn literals_at(s: &[u8], at: Cursor, n: u8, ps: Predicates, v: u8) -> LiteralsRead
-    requires { (n ≤ most_literals) × Padded ps }
-    ensures { Fills most_literals no_literal s.now (literal (arities ps) v) n at result.at result.literals }
+#[tactic(auto, unfolding(runfile::specs::File::literal))]
+fn literal_at(s: &[u8], at: usize, arities: &[u8], v: u8) -> Read<Literal>
+    requires { length arities.now ≤ most_predicates }
+    ensures { read result ≡ literal arities.now v s.now at }
 {
-    let none = no_literal();
-    let count = n as usize;
-    let mut literals = [none; MOST_LITERALS];
-    let mut end = at;
-    let mut j: usize = 0;
-    while j < count {
-        let read = literal_at(s, end, ps, v);
-        let l = read.literal;
-        let next = read.at;
-        literals[j] = l;
-        end = next;
-        j += 1;
-    }
-    LiteralsRead {
-        literals: literals,
-        at: end,
-    }
+    let (sign, at) = within_at(s, at, 0, 1)?;
+    let (predicate, at) = within_at(s, at, 1, arities.len() as u8)?;
+    let n = arity_of(arities, predicate);
+    let (x, at) = argument_at(s, at, v, n, 1)?;
+    let (y, at) = argument_at(s, at, v, n, 2)?;
+    let (z, at) = argument_at(s, at, v, n, 3)?;
+    let positive = sign == 1;
+    Ok((
+        Literal {
+            positive,
+            predicate,
+            x,
+            y,
+            z,
+        },
+        at,
+    ))
 }
 
 // ---- clauses
 
 // The counts and lists of a clause
-fn clause_fields_at(s: &[u8], at: Cursor, ps: Predicates) -> ClauseRead
-    requires { Padded ps }
-    ensures { (viewed result.at (clause_of result.clause) ≡ after at (clause_fields (arities ps) s.now)) × (result.clause ≡ packed (clause_of result.clause)) }
+fn clause_fields_at(s: &[u8], at: usize, arities: &[u8]) -> Read<Clause>
+    requires { length arities.now ≤ most_predicates }
+    ensures { read result ≡ seen packed (clause_fields arities.now s.now at) }
 {
-    let v = count_at(s, at, MOST_VARIABLES);
-    let past_v = v.at;
-    let n = count_at(s, past_v, MOST_ATOMS);
-    let past_n = n.at;
-    let m = count_at(s, past_n, MOST_LITERALS);
-    let past_m = m.at;
-    let az = atoms_at(s, past_m, n.value, v.value);
-    let past_atoms = az.at;
-    let atoms = az.atoms;
-    let ls = literals_at(s, past_atoms, m.value, ps, v.value);
-    let past_literals = ls.at;
-    let literals = ls.literals;
+    let (variables, at) = count_at(s, at, MOST_VARIABLES)?;
+    let (atomcount, at) = count_at(s, at, MOST_ATOMS)?;
+    let (literalcount, at) = count_at(s, at, MOST_LITERALS)?;
+    let (Held { at: atoms, .. }, at) = several(
+        at,
+        atomcount,
+        no_atom(),
+        |at| atom_at(s, at, variables),
+    )?;
+    let (Held { at: literals, .. }, at) = several(
+        at,
+        literalcount,
+        no_literal(),
+        |at| literal_at(s, at, arities, variables),
+    )?;
     let clause = Clause {
-        variables: v.value,
-        atomcount: n.value,
-        literalcount: m.value,
-        atoms: atoms,
-        literals: literals,
+        variables,
+        atomcount,
+        literalcount,
+        atoms,
+        literals,
     };
-    ClauseRead {
-        clause: clause,
-        at: past_literals,
-    }
+    Ok((clause, at))
 }
 
 // A clause, its 5 then 6 judged at its end
-fn clause_at(s: &[u8], at: Cursor, ps: Predicates) -> ClauseRead
-    requires { Padded ps }
-    ensures { (viewed result.at (clause_of result.clause) ≡ after at (clause (arities ps) s.now)) × (result.clause ≡ packed (clause_of result.clause)) }
+fn clause_at(s: &[u8], at: usize, arities: &[u8]) -> Read<Clause>
+    requires { length arities.now ≤ most_predicates }
+    ensures { read result ≡ seen packed (clause arities.now s.now at) }
 {
-    let read = clause_fields_at(s, at, ps);
-    let clause = read.clause;
-    let slots = ps.arities;
-    let judged = admit_clause(ps.count, slots, clause);
-    let number = judged.number;
-    if number == 0 {
-        return read;
-    }
-    let end = read.at;
-    ClauseRead {
-        clause: clause,
-        at: refuse(at, end, number),
+    let (clause, next) = clause_fields_at(s, at, arities)?;
+    match admit_clause(arities, clause) {
+        Ok(read) => Ok((read, next)),
+        Err(refusal) => Err(Refused { refusal, place: at }),
     }
 }
 
-// Where n clauses end
-fn clauses_end(s: &[u8], at: Cursor, n: u8, ps: Predicates) -> Cursor
-    requires { Padded ps }
-    ensures { result ≡ reached (after at (times n (clause (arities ps)) s.now)) }
+// n clauses, each laid into the table where that has a slot for it. They are judged in any case.
+fn clauses_at(s: &[u8], at: usize, n: u8, arities: &[u8], table: &mut [Clause]) -> Read<()>
+    requires { length arities.now ≤ most_predicates }
+    ensures { read_as (λ _. table.new) result ≡ seen (laid table.old) (times n (clause arities.now) s.now at) }
 {
-    let mut past = at;
-    let mut j: u8 = 0;
-    while j < n {
-        let read = clause_at(s, past, ps);
-        let next = read.at;
-        if let Cursor::Refused { number, place } = next {
-            return next;
+    let mut end = at;
+    for j in 0..usize::from(n) {
+        let (c, next) = clause_at(s, end, arities)?;
+        if j < table.len() {
+            table[j] = c;
         }
-        past = next;
-        j += 1;
+        end = next;
     }
-    past
+    Ok(((), end))
 }
 
 // ---- the header
 
-// n predicates with an arity each
-fn predicates_at(s: &[u8], at: Cursor, n: u8) -> PredicatesRead
-    requires { n ≤ most_predicates }
-    ensures { (result.predicates.count ≡ n) × (viewed result.at (arities result.predicates) ≡ after at (times n (count most_arguments) s.now)) × Padded result.predicates }
+// What stands before the first step, from the file's first byte on; the clauses are laid into the table where that has slots for them.
+#[tactic(auto, unfolding(runfile::specs::File::header))]
+fn header_at(s: &[u8], table: &mut [Clause]) -> Read<Header>
+    ensures { read_beside table.new result ≡ kept_beside table.old (header s.now 0) }
 {
-    let count = n as usize;
-    let mut slots = [0u8; MOST_PREDICATES];
-    let mut end = at;
-    let mut j: usize = 0;
-    while j < count {
-        let read = count_at(s, end, MOST_ARGUMENTS);
-        let next = read.at;
-        slots[j] = read.value;
-        end = next;
-        j += 1;
-    }
-    PredicatesRead {
-        predicates: Predicates {
-            count: n,
-            arities: slots,
-        },
-        at: end,
-    }
+    let (_, at) = mark_at(s, 0)?;
+    let (version, at) = version_at(s, at)?;
+    let (constants, at) = count_at(s, at, MOST_CONSTANTS)?;
+    let (count, at) = count_at(s, at, MOST_PREDICATES)?;
+    let (arities, at) = several(at, count, 0, |at| count_at(s, at, MOST_ARGUMENTS))?;
+    let (input, at) = count_at(s, at, MOST_INPUT)?;
+    let (_, at) = clauses_at(s, at, input, arities.as_slice(), table)?;
+    let (steps, at) = step_count_at(s, at)?;
+    let header = Header {
+        version,
+        constants,
+        arities,
+        input,
+        steps,
+    };
+    Ok((header, at))
 }
 
-// What stands before the input clauses, from the file's first byte on
-fn front_at(s: &[u8]) -> Front
-    ensures { Fronts s.now result }
+// What stands before the first step, and the place there. The clauses are judged and not kept.
+pub fn read_header(s: &[u8]) -> Read<Header>
+    ensures { read result ≡ kept (header s.now 0) }
 {
-    let start = Cursor::At { place: 0 };
-    let past_mark = mark_at(s, start);
-    let version = version_at(s, past_mark);
-    let past_version = version.at;
-    let constants = count_at(s, past_version, MOST_CONSTANTS);
-    let past_constants = constants.at;
-    let n = count_at(s, past_constants, MOST_PREDICATES);
-    let past_n = n.at;
-    let ps = predicates_at(s, past_n, n.value);
-    let past_ps = ps.at;
-    let predicates = ps.predicates;
-    let m = count_at(s, past_ps, MOST_INPUT);
-    let past_m = m.at;
-    let of = version.version;
-    Front {
-        version: of,
-        constants: constants.value,
-        predicates: predicates,
-        input: m.value,
-        at: past_m,
-    }
-}
-
-// The answer where the file is refused: blank
-pub fn no_header(number: u8, place: usize) -> HeaderRead
-    ensures { result ≡ packed_header (bad number place) }
-{
-    let slots = [0u8; MOST_PREDICATES];
-    let first = Version::One;
-    HeaderRead {
-        version: first,
-        constants: 0,
-        predicates: Predicates {
-            count: 0,
-            arities: slots,
-        },
-        input: 0,
-        steps: 0,
-        at: Cursor::Refused {
-            number: number,
-            place: place,
-        },
-    }
-}
-
-// What stands before the first step, and the cursor there. The clauses are judged and not kept.
-pub fn read_header(s: &[u8]) -> HeaderRead
-    ensures { result ≡ packed_header (header s.now 0) }
-{
-    let front = front_at(s);
-    let begin = front.at;
-    let predicates = front.predicates;
-    let past = clauses_end(s, begin, front.input, predicates);
-    let t = step_count_at(s, past);
-    let end = t.at;
-    let version = front.version;
-    match end {
-        Cursor::At { place } => HeaderRead {
-            version: version,
-            constants: front.constants,
-            predicates: predicates,
-            input: front.input,
-            steps: t.value,
-            at: Cursor::At { place: place },
-        },
-        Cursor::Refused { number, place } => no_header(number, place),
-    }
+    header_at(s, &mut [])
 }
 
 // The input clauses in the table that has room for the learned ones; blank where the file is refused before the first step.
 pub fn read_clauses(s: &[u8]) -> [Clause; MOST_CLAUSES]
-    ensures { result ≡ exactly most_clauses (packed no_clause) (map packed (input_of (header s.now 0))) }
+    ensures { result ≡ packed_table (input_of (header s.now 0)) }
 {
-    let front = front_at(s);
-    let begin = front.at;
-    let predicates = front.predicates;
-    let count = front.input as usize;
-    let none = no_clause();
-    let mut clauses = [none; MOST_CLAUSES];
-    let mut past = begin;
-    let mut j: usize = 0;
-    while j < count {
-        let read = clause_at(s, past, predicates);
-        let c = read.clause;
-        let next = read.at;
-        clauses[j] = c;
-        past = next;
-        j += 1;
-    }
-    let t = step_count_at(s, past);
-    let end = t.at;
-    if let Cursor::Refused { number, place } = end {
-        return [none; MOST_CLAUSES];
+    let mut clauses = [no_clause(); MOST_CLAUSES];
+    if header_at(s, &mut clauses).is_err() {
+        return [no_clause(); MOST_CLAUSES];
     }
     clauses
 }

@@ -4,30 +4,20 @@
 
 ghost use Rattle.judging.specs.Judging.{WrittenWithin};
 
-use judging::{MOST_INSPECTION, MOST_WITH_NUMBERS, Written};
-use streams::Read;
+use judging::{MOST_INSPECTION, MOST_READ, MOST_WITH_NUMBERS, Written};
 use words::Program;
-
-// "Of any file the program reads one byte more and no further": than the 65,536 that a valid file may have.
-const MOST_READ: usize = 65537;
 
 // What was written, printed
 fn print_text(rt: HostRuntime, written: Written, text: &[u8])
     requires { WrittenWithin text.now written }
 {
-    match written {
-        Written::Bytes {
-            count,
-            number,
-            place,
-        } => {
-            streams::print(rt, b"inspect", &text[..count]);
-        }
-        Written::Short => {}
+    if let Written::Bytes { count, .. } = written {
+        streams::print(rt, b"inspect", &text[..count]);
     }
 }
 
-// The listing and the final state of a file; the buffer is long enough for all.
+// The listing and the final state of a file; the buffer is long enough for all. Not inlined: each run has but its own buffer on the stack.
+#[inline(never)]
 fn print_inspection(rt: HostRuntime, file: &[u8]) {
     let mut text = [0u8; MOST_INSPECTION];
     let written = judging::inspect(file, &mut text);
@@ -35,31 +25,28 @@ fn print_inspection(rt: HostRuntime, file: &[u8]) {
 }
 
 // The same with the numbers
+#[inline(never)]
 fn print_numbers(rt: HostRuntime, file: &[u8]) {
     let mut text = [0u8; MOST_WITH_NUMBERS];
     let written = judging::inspect_numbers(file, &mut text);
     print_text(rt, written, &text);
 }
 
-// What the words ask for
-fn print_asked(rt: HostRuntime, file: &[u8], numbers: bool) {
-    if numbers {
-        print_numbers(rt, file);
-    } else {
-        print_inspection(rt, file);
-    }
-}
-
 fn main(rt: HostRuntime) {
-    let words = streams::words(rt, Program::Inspect);
-    if 0 < words.unknown {
-        streams::tell_unknown(rt, b"inspect", words.unknown);
-        return;
-    }
+    let words = match streams::words(rt, Program::Inspect) {
+        Ok(words) => words,
+        Err(position) => {
+            streams::tell_unknown(rt, b"inspect", position);
+            return;
+        }
+    };
     let mut file = [0u8; MOST_READ];
-    let read = streams::read_input(rt, b"inspect", &mut file);
-    match read {
-        Read::Bytes { count } => print_asked(rt, &file[..count], words.numbers),
-        Read::Failed => {}
+    if let Some(count) = streams::read_input(rt, b"inspect", &mut file) {
+        let file = &file[..count];
+        if words.numbers {
+            print_numbers(rt, file);
+        } else {
+            print_inspection(rt, file);
+        }
     }
 }

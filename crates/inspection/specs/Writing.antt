@@ -56,13 +56,13 @@ most_state = most_first_line + most_entries * most_entry_line + most_clauses * m
 
 -- ---- what is promised
 
--- The line of entry number n, of its record
+-- The line of the entry that j others come before, of its record
 abbrev pub entry_line_of : ℕ → Entry → List ℕ
-entry_line_of n e = entry_line n (entry_of e)
+entry_line_of j e = entry_line (j + 1) (entry_of e)
 
--- The line of clause number n, of its record
+-- The line of the clause that j others come before, of its record
 abbrev pub clause_line_of : ℕ → Clause → List ℕ
-clause_line_of n c = clause_line n (clause_of c)
+clause_line_of j c = clause_line (j + 1) (clause_of c)
 
 -- The run and the table beside it are the records of the state s, and s was reached.
 pub record Recorded (run : Run) (table : List Clause) (s : State) : Type 0 where

@@ -11,10 +11,10 @@ use Rattle.basis.specs.Limits.{most_literals}
 use Rattle.basis.specs.declared.Literal.{Literal}
 use Rattle.lists.proofs.Arrays.{set_exactly, take_exactly}
 use Rattle.lists.proofs.Walks.{take_more, without_more}
-use Rattle.lists.specs.Arrays.{exactly}
+use Rattle.lists.specs.Arrays.{exactly, held, held_in, pushed}
+use Rattle.lists.specs.declared.Held.{Held}
 use Rattle.lists.specs.Lists.{without}
-use Rattle.instances.specs.Listed.{Listed, ListedOnce, packed_instances}
-use Rattle.instances.specs.declared.Instances.{Instances}
+use Rattle.instances.specs.Listed.{Listed, ListedOnce}
 use Rattle.calculus.specs.Clauses.{no_literal}
 
 module _ {A B : Type 0} (f : A → B) (i : ℕ) (l : List A) (j : ℕ) (d : A) (h : j < length l) where
@@ -36,10 +36,11 @@ pub stored_more : {A : Type 0} (d : A) (most n : ℕ) (at xs ys : List A) (x : A
     → (n + 1 ≡ length ys) × (set at n x ≡ exactly most d ys)
 stored_more d most n at xs ys x p q h e = (omega (arith, ap length e, length-append xs (x ∷ [])), rw (p, q, e) (set_exactly d most xs x h))
 
-pub packed_others : {n : ℕ} {at xs ys : List Literal} → n ≡ length xs → at ≡ exactly most_literals no_literal xs → xs ≡ ys → record { count = n; at = at } ≡ packed_instances ys
-packed_others p q e = cc
+-- One more pushed behind those held
+pub held_more : {A : Type 0} (b : A) (most : ℕ) (d : Held A most) (xs ys : List A) (x : A) → d ≡ held most b xs → length xs < most → ys ≡ xs ++ (x ∷ []) → pushed d x ≡ held most b ys
+held_more b most d xs ys x e h q = rw (e, q) (λ i. record { n = (let s : length xs + 1 ≡ length (xs ++ (x ∷ [])) = omega (arith, length-append xs (x ∷ [])) in s) i; at = set_exactly b most xs x h i })
 
-pub listed_says : {d : Instances} {ls : List Literal} → Listed d ls → take d.count d.at ≡ ls
+pub listed_says : {d : Held Literal most_literals} {ls : List Literal} → Listed d ls → held_in d ≡ ls
 listed_says {d} {ls} L = rw L.packed (take_exactly no_literal most_literals ls L.few)
 
 pub listed_once : ListedOnce

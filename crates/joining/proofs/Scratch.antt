@@ -1,45 +1,44 @@
 -- Lists held in arrays, and what one turn of each walk does to them.
-use mathlib.Core.Path.{◌≡◌, refl, sym, ◌∙◌, ap, ap₂}
-use mathlib.Core.List.{List, [], ◌∷◌, ◌++◌}
-use mathlib.Core.Bool.{Bool, true, false, cond}
+use mathlib.Core.Path.{◌≡◌, refl, sym, ◌∙◌, ap}
+use mathlib.Core.List.{List, [], ◌∷◌, ◌++◌, map}
+use mathlib.Core.Bool.{Bool, true, false, not, cond}
 use Prim.Native.Nat.{ℕ, zero, suc, ◌+◌, ◌≤◌, ◌<◌}
 use native.Mathlib.Omega.{arith}
-use native.Mathlib.Numerals.{add-one}
-use lib.ListN.{length, get_or, set, drop, length-append, drop_of_length-le}
-use lib.Seq.{drop-cons}
-use borrow.Author.Tests.{eq-eqb, ne_eqb}
-use Rattle.basis.specs.declared.Atom.{Atom}
-use Rattle.basis.specs.declared.Literal.{Literal}
-use Rattle.basis.specs.Atoms.{no_atom}
+use lib.Dec.{eqb}
+use lib.ListN.{length, get_or, take, drop, length-append}
+use borrow.Author.Tests.{ne_eqb}
+use Rattle.std.specs.List.{position, position_or_len}
+use Rattle.std.specs.Option.{unwrap_or}
+use Rattle.std.proofs.Common.{Some, None, nat_lt}
+use Rattle.lists.specs.declared.Held.{Held}
 use Rattle.lists.specs.Lists.{up_from, keep_if, index_of}
-use Rattle.lists.specs.Arrays.{exactly}
+use Rattle.lists.specs.Arrays.{held, held_in, pushed}
 use Rattle.lists.proofs.Arrays.{take_exactly, set_exactly}
 use Rattle.lists.proofs.Walks.{keep_if_more, keep_if_short, up_from_more, up_from_length}
-use Rattle.calculus.specs.Clauses.{no_literal}
 use Rattle.calculus.specs.Merging.{apart}
-use Rattle.joining.specs.declared.Atoms.{Atoms}
-use Rattle.joining.specs.declared.Literals.{Literals}
-use Rattle.joining.specs.declared.Names.{Names}
-use Rattle.joining.specs.Scratch.{both_variables, both_atoms, both_literals, atoms_in, literals_in, names_in, held_atoms, held_literals, held_names}
 
--- ---- what is held can be read back
+-- ---- what is held
 
-pub atoms_in_lem : {l : Atoms} (xs : List Atom) → length xs ≤ both_atoms → l ≡ held_atoms xs → atoms_in l ≡ xs
-atoms_in_lem xs h e = ap atoms_in e ∙ take_exactly no_atom both_atoms xs h
+pub held_count : {A : Type 0} {N : ℕ} {h k : Held A N} → h ≡ k → h.n ≡ k.n
+held_count {A} {N} e = ap (λ (o : Held A N). o.n) e
 
-pub literals_in_lem : {l : Literals} (xs : List Literal) → length xs ≤ both_literals → l ≡ held_literals xs → literals_in l ≡ xs
-literals_in_lem xs h e = ap literals_in e ∙ take_exactly no_literal both_literals xs h
+module _ {A : Type 0} {N : ℕ} (d : A) (xs : List A) where
+  -- It can be read back.
+  pub held_read : {h : Held A N} → length xs ≤ N → h ≡ held N d xs → held_in h ≡ xs
+  held_read k e = ap held_in e ∙ take_exactly d N xs k
 
-pub names_in_lem : {l : Names} (xs : List ℕ) → length xs ≤ both_variables → l ≡ held_names xs → names_in l ≡ xs
-names_in_lem xs h e = ap names_in e ∙ take_exactly 0 both_variables xs h
+  pub held_again : {h : Held A N} → length xs ≤ N → h ≡ held N d xs → h ≡ held N d (held_in h)
+  held_again k e = e ∙ ap (held N d) (sym (held_read k e))
 
--- ---- one more is stored
+  -- One more, after the others
+  pub held_more : (x : A) → length xs < N → pushed (held N d xs) x ≡ held N d (xs ++ (x ∷ []))
+  held_more x k = λ i. record { n = sym (length-append xs (x ∷ [])) i; at = set_exactly d N xs x k i }
 
-abbrev pub push_name : Names → ℕ → Names
-push_name l b = record { n = l.n + 1; at = set l.at l.n b }
-
-pub push_name_lem : (xs : List ℕ) (b : ℕ) → length xs < both_variables → push_name (held_names xs) b ≡ held_names (xs ++ (b ∷ []))
-push_name_lem xs b h = λ i. record { n = sym (length-append xs (b ∷ [])) i; at = set_exactly 0 both_variables xs b h i }
+-- What a list that is changed slot by slot has at the next slot
+pub not_yet : {A : Type 0} (f : A → A) (t : List A) (j : ℕ) (d : A) → j < length t → get_or (map f (take j t) ++ drop j t) j d ≡ get_or t j d
+not_yet f [] j d h = absurd (omega arith)
+not_yet f (x ∷ t) zero d h = refl
+not_yet f (x ∷ t) (suc j) d h = not_yet f t j d (omega arith)
 
 -- ---- a clause whose variables follow no others
 
@@ -52,11 +51,10 @@ apart_none = λ i x. go x i
 
 -- ---- the table at the start
 
-pub start_turn : (x : ℕ) → x < both_variables → set (exactly both_variables 0 (up_from 1 x)) x (x + 1) ≡ exactly both_variables 0 (up_from 1 (x + 1))
-start_turn x h =
-    let s = up_from_length 1 x in
-    ap (λ (i : ℕ). set (exactly both_variables 0 (up_from 1 x)) i (x + 1)) (sym s) ∙ set_exactly 0 both_variables (up_from 1 x) (x + 1) (omega arith)
-    ∙ ap (exactly both_variables 0) (ap (λ (k : ℕ). up_from 1 x ++ (k ∷ [])) (omega arith) ∙ sym (up_from_more 1 x))
+pub start_turn : (N x : ℕ) {h : Held ℕ N} → x < N → h ≡ held N 0 (up_from 1 x) → pushed h (x + 1) ≡ held N 0 (up_from 1 (x + 1))
+start_turn N x h e =
+    ap (λ (o : Held ℕ N). pushed o (x + 1)) e ∙ held_more 0 (up_from 1 x) (x + 1) (omega (arith, up_from_length 1 x))
+    ∙ ap (held N 0) (ap (λ (k : ℕ). up_from 1 x ++ (k ∷ [])) (omega arith) ∙ sym (up_from_more 1 x))
 
 -- ---- the variables that are kept
 
@@ -64,27 +62,46 @@ module _ (p : ℕ → Bool) (x : ℕ) where
   pub kept_short : length (keep_if p (up_from 1 x)) ≤ x
   kept_short = omega (arith, keep_if_short p (up_from 1 x), up_from_length 1 x)
 
-  pub kept_turn : (o o' : Names) (b : Bool) → x < both_variables → o ≡ held_names (keep_if p (up_from 1 x)) → b ≡ p (x + 1) → o' ≡ cond b (push_name o (x + 1)) o → o' ≡ held_names (keep_if p (up_from 1 (x + 1)))
-  kept_turn o o' b h eo eb e =
-      let ks = keep_if p (up_from 1 x) in
-      let more : up_from 1 (x + 1) ≡ up_from 1 x ++ ((x + 1) ∷ []) = up_from_more 1 x ∙ ap (λ (k : ℕ). up_from 1 x ++ (k ∷ [])) (omega arith) in
-      e ∙ ap₂ (λ (o : Names) (b : Bool). cond b (push_name o (x + 1)) o) eo eb ∙ go ks kept_short (p (x + 1))
-      ∙ ap held_names (sym (ap (keep_if p) more ∙ keep_if_more p (up_from 1 x) (x + 1)))
+  next : up_from 1 (x + 1) ≡ up_from 1 x ++ ((x + 1) ∷ [])
+  next = up_from_more 1 x ∙ ap (λ (k : ℕ). up_from 1 x ++ (k ∷ [])) (omega arith)
+
+  kept_next : keep_if p (up_from 1 (x + 1)) ≡ cond (p (x + 1)) (keep_if p (up_from 1 x) ++ ((x + 1) ∷ [])) (keep_if p (up_from 1 x))
+  kept_next = ap (keep_if p) next ∙ keep_if_more p (up_from 1 x) (x + 1)
+
+  pub kept_turn : (N : ℕ) {h : Held ℕ N} → x < N → p (x + 1) ≡ true → h ≡ held N 0 (keep_if p (up_from 1 x)) → pushed h (x + 1) ≡ held N 0 (keep_if p (up_from 1 (x + 1)))
+  kept_turn N k t e =
+      ap (λ (o : Held ℕ N). pushed o (x + 1)) e ∙ held_more 0 (keep_if p (up_from 1 x)) (x + 1) (omega (arith, kept_short))
+      ∙ ap (held N 0) (sym (kept_next ∙ ap (λ (b : Bool). cond b (keep_if p (up_from 1 x) ++ ((x + 1) ∷ [])) (keep_if p (up_from 1 x))) t))
+
+  pub left_turn : (N : ℕ) {h : Held ℕ N} → p (x + 1) ≡ false → h ≡ held N 0 (keep_if p (up_from 1 x)) → h ≡ held N 0 (keep_if p (up_from 1 (x + 1)))
+  left_turn N f e = e ∙ ap (held N 0) (sym (kept_next ∙ ap (λ (b : Bool). cond b (keep_if p (up_from 1 x) ++ ((x + 1) ∷ [])) (keep_if p (up_from 1 x))) f))
+
+-- ---- the new number of a variable
+
+module _ (x : ℕ) where
+  place : (ks : List ℕ) → position_or_len (eqb x) ks ≡ index_of x ks
+  place [] = refl
+  place (k ∷ ks) = go (eqb x k) (place ks)
     where
-      go : (ks : List ℕ) → length ks ≤ x → (t : Bool) → cond t (push_name (held_names ks) (x + 1)) (held_names ks) ≡ held_names (cond t (ks ++ ((x + 1) ∷ [])) ks)
-      go ks s true = push_name_lem ks (x + 1) (omega arith)
-      go ks s false = refl
+      go : (b : Bool) {m n : ℕ} → m ≡ n → cond (not b) (1 + m) 0 ≡ cond b 0 (suc n)
+      go true e = refl
+      go false e = omega arith
 
--- ---- places in a list, from j on
+  pub place_short : (ks : List ℕ) → index_of x ks ≤ length ks
+  place_short [] = omega arith
+  place_short (k ∷ ks) = go (eqb x k) (place_short ks)
+    where
+      go : (b : Bool) {m : ℕ} → m ≤ length ks → cond b 0 (suc m) ≤ suc (length ks)
+      go true h = omega arith
+      go false h = omega arith
 
-pub index_here : (l : List ℕ) (x j : ℕ) → j < length l → get_or l j 0 ≡ x → index_of x (drop j l) ≡ 0
-index_here l x j h e = rw (drop-cons l j 0 h, eq-eqb x (get_or l j 0) (sym e))
+  -- Where x stands first, or the length
+  pub place_or_length : (ks : List ℕ) → unwrap_or (position (eqb x) ks) (length ks) ≡ index_of x ks
+  place_or_length ks = go (nat_lt (position_or_len (eqb x) ks) (length ks)) refl
+    where
+      go : (b : Bool) → nat_lt (position_or_len (eqb x) ks) (length ks) ≡ b → unwrap_or (cond b (Some (position_or_len (eqb x) ks)) None) (length ks) ≡ index_of x ks
+      go true e = place ks
+      go false e = omega (arith, place ks, place_short ks, borrow.Author.Tests.ltb-false (position_or_len (eqb x) ks) (length ks) e)
 
-pub index_next : (l : List ℕ) (x j : ℕ) → j < length l → (get_or l j 0 ≡ x → ⊥) → index_of x (drop j l) ≡ suc (index_of x (drop (j + 1) l))
-index_next l x j h n = rw (drop-cons l j 0 h, ne_eqb x (get_or l j 0) (λ e. n (sym e)), add-one)
-
-pub index_end : (l : List ℕ) (x j : ℕ) → length l ≤ j → index_of x (drop j l) ≡ 0
-index_end l x j h = rw (drop_of_length-le l h)
-
-pub closed_past : (ks : List ℕ) (x : ℕ) → (x ≡ 0 → ⊥) → index_of x (0 ∷ ks) ≡ suc (index_of x ks)
-closed_past ks x n = rw (ne_eqb x 0 n)
+  pub closed_past : (ks : List ℕ) → (x ≡ 0 → ⊥) → index_of x (0 ∷ ks) ≡ suc (index_of x ks)
+  closed_past ks n = rw (ne_eqb x 0 n)

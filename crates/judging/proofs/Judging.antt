@@ -9,8 +9,7 @@ use Rattle.basis.specs.Numbers.{whole}
 use Rattle.calculus.specs.Rules.{Answer}
 use Rattle.calculus.specs.Runs.{plain}
 use Rattle.calculus.proofs.Answers.{answer_unique}
-use Rattle.fields.specs.declared.Cursor.TheVariants as C
-use Rattle.header.specs.declared.HeaderRead.{HeaderRead}
+use Rattle.runfile.specs.Readers.{bad}
 use Rattle.steps.specs.Records.{file_answer}
 use Rattle.steps.proofs.Files.{refused_file}
 use Rattle.text.specs.Text.{Wrote}
@@ -36,10 +35,10 @@ module _ (numbered : Bool) {after : Answer → List ℕ} {most : ℕ} {s d d' : 
   leaves_text {w} e q h a = let f = at_front (omega arith) a in (room, e, (w, q, f.0, f.1))
 
   -- The refusal
-  pub leaves_bad : (h : HeaderRead) → h ≡ file_answer s → h.at ≡ C.Refused k p → k < 256 → p < 18446744073709551616 → most_bad ≤ most
+  pub leaves_bad : bad k p ≡ file_answer s → k < 256 → p < 18446744073709551616 → most_bad ≤ most
       → Wrote d 0 (bad_line k p) d' n → Leaves (plain whole) (beneath numbered) after most s d d' (Bytes n k p)
-  leaves_bad h e q small low m a =
-      let is = refused_file s h e k p q in leaves_text (with_file k p is) (bad_file k p is) (omega (arith, length_bad k p small low)) a
+  leaves_bad e small low m a =
+      let is = refused_file s k p e in leaves_text (with_file k p is) (bad_file k p is) (omega (arith, length_bad k p small low)) a
 
 -- .. which fits every text's room
 pub bad_fits : (numbered shown : Bool) → most_bad ≤ most_text numbered shown

@@ -7,13 +7,13 @@ ghost use Rattle.calculus.specs.Runs.{plain};
 ghost use Rattle.trying.specs.Texts.{beneath, ending, most_text};
 ghost use Rattle.judging.specs.Judging.{Leaves, Lists, Shows, ShowsNumbers};
 
-use fields::Cursor;
+use basis::Refused;
 use listing::put_bad;
 use steps::read_file;
 use trying::run_steps;
 
 // What judging a file into a buffer answers: how many bytes were written, and the number and place that judging ended with; or that the buffer
-// is shorter than a text can be, and was left.
+// is shorter than a text can be, and was left. No Result: `Demand1`, `Demand2` and `EndToEnd` are stated of these two.
 #[derive(Clone, Copy)]
 pub enum Written {
     Bytes {
@@ -23,6 +23,9 @@ pub enum Written {
     },
     Short,
 }
+
+// "Of any file the program reads one byte more and no further": than the 65,536 that a valid file may have.
+pub const MOST_READ: usize = 65537;
 
 // No listing has more bytes: the lines of 2,000 steps and the last line.
 pub const MOST_LISTING: usize = 54008;
@@ -38,18 +41,17 @@ fn judged(file: &[u8], out: &mut [u8], numbered: bool, shown: bool) -> Written
     requires { most_text numbered shown ≤ length out.old }
     ensures { Leaves (plain whole) (beneath numbered) (ending shown) (most_text numbered shown) file.now out.old out.new result }
 {
-    let head = read_file(file);
-    let begin = head.at;
-    match begin {
-        Cursor::At { place } => {
-            let ended = run_steps(file, head, place, out, numbered, shown);
+    match read_file(file) {
+        Ok((head, first)) => {
+            let ended = run_steps(file, head, first, out, numbered, shown);
             Written::Bytes {
                 count: ended.count,
                 number: ended.number,
                 place: ended.place as usize,
             }
         }
-        Cursor::Refused { number, place } => {
+        Err(Refused { refusal, place }) => {
+            let number = u8::from(refusal);
             let count = put_bad(out, 0, number, place);
             Written::Bytes {
                 count: count,

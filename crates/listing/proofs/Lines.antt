@@ -16,7 +16,7 @@ use Rattle.calculus.specs.States.{Step, Propagate, Decide, Conflict, Resolve, Fa
 use Rattle.runfile.specs.File.{most_steps}
 use Rattle.asking.specs.Steps.{decide_of, instance_of, step_of}
 use Rattle.asking.specs.declared.Step as steps
-use Rattle.text.specs.Text.{bytes, decimal, Wrote}
+use Rattle.text.specs.Text.{bytes, decimal}
 use Rattle.text.proofs.Text.{length_decimal}
 use Rattle.listing.specs.Lines.{rule_name, numbered, accepted_line, refused_line, is_empty, is_refutation, closing, last_line, bad_line, most_name, most_numbered, most_line, most_last, most_bad}
 use Rattle.listing.specs.Records.{ClosesAsLast, NamesRule, name_of}
@@ -53,7 +53,7 @@ length_name (Backtrack l) = lit≤ tt
 length_name (Grow n) = lit≤ tt
 length_name (Unknown rule) = lit≤ tt
 
-short_name : (rule : ℕ) → length (name_of rule) ≤ most_name
+pub short_name : (rule : ℕ) → length (name_of rule) ≤ most_name
 short_name rule =
     let x : steps.Step = record { rule = rule; clause = 0; literal = 0; other = 0; sign = 0; amount = 0; count = 0; brought = 0; instance = []; atoms = [] } in
     subst (λ (name : List ℕ). length name ≤ most_name) (sym (names_rule x)) (length_name (step_of x))
@@ -105,18 +105,3 @@ refuted_run (some N) = none_left N.clause.literals
 
 pub closes_as_last : ClosesAsLast
 closes_as_last e = ap (λ (b : Bool). closing b e.number) (refuted_run e.state.conflict)
-
--- ---- what the writers of names and of the last line wrote
-
--- No name
-pub nothing : {d : List ℕ} {i : ℕ} → Wrote d i [] d i
-nothing = record { next = omega arith; left = refl }
-
-pub closes_refuted : {d d' : List ℕ} {i r : ℕ} {b c : Bool} (e : ℕ) → b ≡ c → b ≡ true → Wrote d i (bytes "refuted\n") d' r → Wrote d i (closing c e) d' r
-closes_refuted e p q w = rw (sym p, q) w
-
-pub closes_open : {d d' : List ℕ} {i r : ℕ} {b c : Bool} (e : ℕ) → b ≡ c → b ≡ false → e ≡ accepted → Wrote d i (bytes "open\n") d' r → Wrote d i (closing c e) d' r
-closes_open e p q h w = rw (sym p, q, h) w
-
-pub closes_stopped : {d d' : List ℕ} {i r : ℕ} {b c : Bool} (e : ℕ) → b ≡ c → b ≡ false → ¬ (e ≡ accepted) → Wrote d i (bytes "stopped\n") d' r → Wrote d i (closing c e) d' r
-closes_stopped e p q h w = rw (sym p, q, ne_eqb e accepted h) w

@@ -1,5 +1,7 @@
 -- Lists as the definitions use them: parts kept by a test, pairs, places of elements, equality that computes.
-use Rattle.std.specs.Prelude.{List, [], ◌∷◌, Bool, true, false, ◌&&◌, ◌||◌, cond, ℕ, zero, suc, ℤ, pos, negsuc, eqb}
+use Rattle.std.specs.Cmp.Lexicographic.{pointwise}
+use Rattle.std.specs.List.{list_all, list_any}
+use Rattle.std.specs.Prelude.{List, [], ◌∷◌, Bool, false, cond, ℕ, zero, suc, ℤ, pos, negsuc, eqb}
 
 -- a, a + 1, .., n numbers in all
 abbrev pub up_from : ℕ → ℕ → List ℕ
@@ -12,13 +14,12 @@ module _ {A : Type 0} where
   keep_if p [] = []
   keep_if p (x ∷ xs) = let r = keep_if p xs in cond (p x) (x ∷ r) r
 
+  -- Whether some element passes the test, and whether each does: the library's words
   abbrev pub any_of : (A → Bool) → List A → Bool
-  any_of p [] = false
-  any_of p (x ∷ xs) = p x || any_of p xs
+  any_of p xs = list_any p xs
 
   abbrev pub all_of : (A → Bool) → List A → Bool
-  all_of p [] = true
-  all_of p (x ∷ xs) = p x && all_of p xs
+  all_of p xs = list_all p xs
 
   -- Without the element at i, counted from 0
   abbrev pub without : ℕ → List A → List A
@@ -33,10 +34,7 @@ pair_up (x ∷ xs) [] = []
 pair_up (x ∷ xs) (y ∷ ys) = (x, y) ∷ pair_up xs ys
 
 abbrev pub same_list : List ℕ → List ℕ → Bool
-same_list [] [] = true
-same_list [] (y ∷ ys) = false
-same_list (x ∷ xs) [] = false
-same_list (x ∷ xs) (y ∷ ys) = eqb x y && same_list xs ys
+same_list xs ys = pointwise eqb xs ys
 
 abbrev pub same_whole : ℤ → ℤ → Bool
 same_whole (pos a) (pos b) = eqb a b

@@ -14,8 +14,10 @@ use Rattle.basis.specs.Refusals.{buffer_short, not_in_order, too_many_rows}
 use Rattle.basis.specs.Atoms.{InRange}
 use Rattle.lists.proofs.Decided.{all_decided}
 use Rattle.integers.proofs.Order.{at_most_decided, below_decided}
-use Rattle.lookup.specs.declared.Tabled.{Tabled}
-use Rattle.lookup.specs.declared.Tabled.TheVariants.{Bytes, Refused}
+use Rattle.std.specs.Prelude.{Result, Ok, Err}
+use Rattle.basis.specs.declared.Refusal.{Refusal}
+use Rattle.basis.specs.declared.Refusal.TheVariants.{TooManyRows, NotInOrder, BufferShort}
+use Rattle.basis.specs.declared.Refused.{Refused}
 use Rattle.lookup.specs.Tables.{InOrder, RowInOrder}
 use Rattle.lookup.specs.Making.{EveryTable, Makes, bytes_for}
 
@@ -43,8 +45,8 @@ every_table keys results m d = by (dec_le (length keys) most_rows) (in_order_dec
     w : List ℕ
     w = bytes_for keys results m
 
-    by : Dec (length keys ≤ most_rows) → Dec (InOrder keys results) → Dec (length w ≤ length d) → (d' : List ℕ) × (r : Tabled) × Makes keys results m d d' r
-    by (no h) o f = (d, Refused too_many_rows 0, (inl (h, refl), λ e. absurd (omega arith), refl, refl))
-    by (yes h) (no o) f = (d, Refused not_in_order 0, (inr (h, inl (o, refl)), λ e. absurd (omega arith), refl, refl))
-    by (yes h) (yes o) (no f) = (d, Refused buffer_short 0, (inr (h, inr (o, inl (f, refl))), λ e. absurd (omega arith), refl, refl))
-    by (yes h) (yes o) (yes f) = (w ++ drop (length w) d, Bytes (length w), ((h, (o, (f, tt))), refl, refl))
+    by : Dec (length keys ≤ most_rows) → Dec (InOrder keys results) → Dec (length w ≤ length d) → (d' : List ℕ) × (r : Result ℕ (Refused ℕ)) × Makes keys results m d d' r
+    by (no h) o f = (d, Err (record { refusal = TooManyRows; place = 0 }), (inl (h, refl), refl, refl))
+    by (yes h) (no o) f = (d, Err (record { refusal = NotInOrder; place = 0 }), (inr (h, inl (o, refl)), refl, refl))
+    by (yes h) (yes o) (no f) = (d, Err (record { refusal = BufferShort; place = 0 }), (inr (h, inr (o, inl (f, refl))), refl, refl))
+    by (yes h) (yes o) (yes f) = (w ++ drop (length w) d, Ok (length w), ((h, (o, (f, tt))), refl, refl))

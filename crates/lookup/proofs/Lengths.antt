@@ -71,6 +71,6 @@ pub exact_long : (n : ℕ) → table_long Exact n ≡ 31 * n
 exact_long zero = omega arith
 exact_long (suc n) = omega arith
 
-pub approximate_long : (n : ℕ) → ¬ (n ≡ 0) → table_long Approximate n ≡ 31 * n - 6
-approximate_long zero h = absurd (h refl)
-approximate_long (suc n) h = omega arith
+pub approximate_long : (n : ℕ) → table_long Approximate n ≡ 31 * n - 6
+approximate_long zero = omega arith
+approximate_long (suc n) = omega arith

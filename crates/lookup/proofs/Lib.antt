@@ -4,6 +4,7 @@ pub mod Lengths
 pub mod Numbers
 pub mod Walks
 pub mod Stores
+pub mod Refusals
 pub mod Making
 pub mod Meaning
 pub mod InFile

@@ -18,10 +18,6 @@ within h = record { above = omega (arith, le→ h.high); below = omega (arith, l
 minus_one : Within 1 (negsuc 0)
 minus_one = record { above = omega arith; below = omega arith }
 
--- What the machine reads of a word is the word.
-pub read_as : {x n : ℤ} → SFits w32 x → x ≡ n → to_z w32 (of_z w32 x) ≡ n
-read_as h e = to_z-of_z h ∙ e
-
 -- x is what the machine reads of n.
 module _ {n x : ℤ} (h : InRange n) (e : x ≡ n) where
   within_negated : Within most_c (pos 0 -ℤ n)

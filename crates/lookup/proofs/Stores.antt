@@ -1,25 +1,23 @@
 -- What the stores leave: the record of a row's clause, filled from the blank one, and the bytes of the clauses one after the other.
-use mathlib.Core.Path.{◌≡◌, refl, ap, ap₂, ◌∙◌}
+use mathlib.Core.Path.{◌≡◌, ap, ap₂, ◌∙◌}
 use mathlib.Core.List.{List, [], ◌∷◌}
 use mathlib.Core.Option.{none, some}
 use Prim.Native.Nat.{ℕ, zero, suc, ◌+◌, ◌≤◌, ◌<◌}
 use native.Mathlib.Omega.{arith}
 use lib.IntN.{ℤ}
 use lib.ListN.{length, get_or, set, take}
-use lib.Seq.{take_all}
-use Rattle.basis.specs.Limits.{most_predicates}
 use Rattle.basis.specs.declared.Atom.{Atom}
 use Rattle.basis.specs.declared.Literal.{Literal}
 use Rattle.lists.specs.Arrays.{exactly}
 use Rattle.calculus.specs.Clauses.{no_clause}
+use Rattle.calculus.specs.Clauses as calculus
 use Rattle.runfile.specs.Written.{joined, written_clause}
 use Rattle.clauses.specs.declared.Clause.{Clause}
-use Rattle.clauses.specs.Counts.{Counts}
 use Rattle.clauses.specs.Records.{clause_of, packed}
 use Rattle.clauses.proofs.Records.{packed_says}
 use Rattle.text.specs.Text.{Wrote}
 use Rattle.text.proofs.Text.{as_text}
-use Rattle.clausebytes.proofs.Members.{Joined, room_for, one_more, all_written}
+use Rattle.clausebytes.proofs.Members.{room_for, one_more, all_written}
 use Rattle.lookup.specs.declared.Match.{Match}
 use Rattle.lookup.specs.Tables.{InOrder, Row, rows_of}
 use Rattle.lookup.specs.TableClauses.{at_least, at_most, end_of, gets, gets_arities, row_clause, table_clauses}
@@ -51,31 +49,25 @@ record_says m (r ∷ later) (suc j) = record_says m later j
 
 -- After j rows
 abbrev pub RowsPut : (keys results : List ℤ) → Match → (j : ℕ) (d d' : List ℕ) (r : ℕ) → Type 0
-RowsPut keys results m j d d' r = Joined (written_clause gets_arities) (table_clauses m (rows_of keys results)) j d 0 d' r
+RowsPut keys results m j d d' r = Wrote d 0 (joined (written_clause gets_arities) (take j (table_clauses m (rows_of keys results)))) d' r
 
 module _ {keys results : List ℤ} (I : InOrder keys results) (m : Match) where
-  -- There are as many clauses as keys ..
-  counted : Counts (table_clauses m (rows_of keys results)) (length keys) (length keys) (length keys)
-  counted = record { long = one_for_each m I; few = omega arith; same = refl }
-
-  -- .. so these are all bytes.
-  all_bytes : joined (written_clause gets_arities) (take (length keys) (table_clauses m (rows_of keys results))) ≡ bytes_for keys results m
-  all_bytes = ap (joined (written_clause gets_arities)) (take_all (length keys) (table_clauses m (rows_of keys results)) (omega (arith, one_for_each m I)))
+  abbrev clauses : List calculus.Clause
+  clauses = table_clauses m (rows_of keys results)
 
   module _ {j r : ℕ} {d d₁ : List ℕ} (t : RowsPut keys results m j d d₁ r) where
     -- What is put for row j
-    module _ {arities : List ℕ} {c : Clause} (h : j < length keys) (e : arities ≡ exactly most_predicates 0 gets_arities) (f : c ≡ packed (get_or (table_clauses m (rows_of keys results)) j no_clause)) where
-      row_written : written_clause (exactly 1 0 arities) (clause_of c) ≡ written_clause gets_arities (get_or (table_clauses m (rows_of keys results)) j no_clause)
-      unfolding exactly
-      row_written = ap₂ written_clause (ap (exactly 1 0) e) (ap clause_of f ∙ record_says m (rows_of keys results) j)
+    module _ {arities : List ℕ} {c : Clause} (h : j < length keys) (e : arities ≡ gets_arities) (f : c ≡ packed (get_or (table_clauses m (rows_of keys results)) j no_clause)) where
+      row_written : written_clause arities (clause_of c) ≡ written_clause gets_arities (get_or (table_clauses m (rows_of keys results)) j no_clause)
+      row_written = ap₂ written_clause e (ap clause_of f ∙ record_says m (rows_of keys results) j)
 
       -- .. finds room,
-      pub row_fits : length (bytes_for keys results m) ≤ length d → r + length (written_clause (exactly 1 0 arities) (clause_of c)) ≤ length d₁
-      row_fits room = rw row_written (room_for t counted no_clause h (omega (arith, ap length all_bytes)))
+      pub row_fits : length (bytes_for keys results m) ≤ length d → r + length (written_clause arities (clause_of c)) ≤ length d₁
+      row_fits room = rw row_written (room_for (written_clause gets_arities) clauses j t no_clause (omega (arith, one_for_each m I)) (omega (arith, room)))
 
       -- .. and is one row more.
-      pub row_put : {d₂ : List ℕ} {r₂ : ℕ} → length d₂ ≡ length d₁ → Wrote d₁ r (written_clause (exactly 1 0 arities) (clause_of c)) d₂ r₂ → RowsPut keys results m (j + 1) d d₂ r₂
-      row_put l a = one_more t counted no_clause h l (as_text row_written a)
+      pub row_put : {d₂ : List ℕ} {r₂ : ℕ} → Wrote d₁ r (written_clause arities (clause_of c)) d₂ r₂ → RowsPut keys results m (j + 1) d d₂ r₂
+      row_put a = one_more (written_clause gets_arities) clauses j t no_clause (omega (arith, one_for_each m I)) (as_text row_written a)
 
-    pub all_put : j ≤ length keys → length keys ≤ j → Wrote d 0 (bytes_for keys results m) d₁ r
-    all_put h g = as_text all_bytes (all_written t counted h g)
+    pub all_put : length keys ≤ j → Wrote d 0 (bytes_for keys results m) d₁ r
+    all_put h = all_written (written_clause gets_arities) clauses j t (omega (arith, one_for_each m I))

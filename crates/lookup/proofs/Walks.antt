@@ -1,4 +1,4 @@
--- What the code finds at row j: whether it is in order, and its clause.
+-- What the code finds at row j: its clause.
 use mathlib.Core.Path.{◌≡◌, refl, ap, ◌∙◌, subst₂}
 use mathlib.Core.Bool.{Bool, true, false}
 use mathlib.Core.List.{List, [], ◌∷◌}
@@ -19,25 +19,6 @@ use Rattle.lookup.specs.declared.Match.TheVariants.{Exact, Approximate}
 use Rattle.lookup.specs.Tables.{InOrder, Row, RowInOrder, rows_of}
 use Rattle.lookup.specs.TableClauses.{end_of, row_clause, table_clauses}
 use Rattle.lookup.proofs.Lengths.{enough_results}
-
--- ---- whether a row is in order
-
--- Two neighbours are compared.
-pub neighbours_decide : (keys : List ℤ) (j : ℕ) (a b : ℤ) → 0 < j → a ≡ get_or keys (j - 1) (pos 0) → b ≡ get_or keys j (pos 0)
-    → Decides ((i : ℕ) → j ≡ suc i → get_or keys i (pos 0) <ℤ get_or keys j (pos 0)) (lt_z a b)
-neighbours_decide keys j a b h e f = go (lt_z a b) refl
-  where
-    go : (t : Bool) → lt_z a b ≡ t → Decides ((i : ℕ) → j ≡ suc i → get_or keys i (pos 0) <ℤ get_or keys j (pos 0)) t
-    go true q = λ i g. let l : j - 1 ≡ i = omega arith in subst₂ ◌<ℤ◌ (e ∙ ap (λ (k : ℕ). get_or keys k (pos 0)) l) f (lt_z_true q)
-    go false q = λ g. clash_ℤ (g (j - 1) (omega arith)) (subst₂ ◌≤ℤ◌ f e (lt_z_false q))
-
--- Where all else is in order, the range of the result decides.
-pub row_by_result : (keys results : List ℤ) (j : ℕ) (r : Bool) → j < length results → ((i : ℕ) → j ≡ suc i → get_or keys i (pos 0) <ℤ get_or keys j (pos 0))
-    → InRange (get_or keys j (pos 0)) → Decides (InRange (get_or results j (pos 0))) r → Decides (RowInOrder keys results j) r
-row_by_result keys results j true h f k d = record { has_result = h; rises = f; key_range = k; result_range = d }
-row_by_result keys results j false h f k d = λ R. d R.result_range
-
--- ---- the clause of a row
 
 -- Where x ends in a row with the key k, before the later keys
 abbrev end_before : Match → ℤ → (later : List ℤ) → Option ℤ

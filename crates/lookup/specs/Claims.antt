@@ -1,6 +1,6 @@
 -- What the clauses of a table mean, and that a run file has them from these bytes. Quoted is the request "Clauses from a lookup table". Proved in
 -- proofs/Meaning.antt, proofs/InFile.antt and proofs/Making.antt.
-use Rattle.std.specs.Prelude.{◌≡◌, ◌↔◌, ℕ, ◌+◌, ◌*◌, ◌≤◌, ℤ, length, take}
+use Rattle.std.specs.Prelude.{◌≡◌, ◌↔◌, ℕ, ◌+◌, ◌*◌, ◌≤◌, ℤ, length, take, Ok}
 use mathlib.Core.List.{List, [], ◌∷◌, ◌++◌, Memᴰ}
 use Rattle.basis.specs.Limits.{most_input, most_rows}
 use Rattle.basis.specs.Numbers.{whole}
@@ -12,7 +12,6 @@ use Rattle.runfile.specs.File.{File, file, most_file}
 use Rattle.runfile.specs.Written.{joined, written_clause, written_with}
 use Rattle.runfile.specs.Claims.{Sayable}
 use Rattle.lookup.specs.declared.Match.{Match}
-use Rattle.lookup.specs.declared.Tabled.TheVariants.{Bytes}
 use Rattle.lookup.specs.Tables.{InOrder, Returns, Row, rows_of}
 use Rattle.lookup.specs.TableClauses.{table_clauses}
 use Rattle.lookup.specs.Making.{Makes, bytes_for}
@@ -101,7 +100,7 @@ TableShort = (keys results : List ℤ) → TableAccepted keys results → (m : M
 -- y at x; all else of the file is as it was.
 abbrev pub WrittenExactly : Type 1
 WrittenExactly =
-    (keys results : List ℤ) (m : Match) (d d' : List ℕ) (n : ℕ) → Makes keys results m d d' (Bytes n) → (F : File) → Sayable F → arity_of F.arities 1 ≡ 2
+    (keys results : List ℤ) (m : Match) (d d' : List ℕ) (n : ℕ) → Makes keys results m d d' (Ok n) → (F : File) → Sayable F → arity_of F.arities 1 ≡ 2
     → (before after : List Clause) → F.input ≡ before ++ after → length F.input + length keys ≤ most_input
     → let s = written_among F before (length keys) (take n d') after in
     length s ≤ most_file → (cs : List Clause) × (file s ≡ got (with_input F (before ++ cs ++ after)) (length s)) × ((x y : ℤ) → GetsFollows F.arities cs x y ↔ Returns m (rows_of keys results) x y)

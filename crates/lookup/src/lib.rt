@@ -4,9 +4,7 @@
 ghost use Rattle.std.specs.Prelude.{◌≡◌, ℕ, suc, ◌≤◌, ◌<◌, pos, ◌<ℤ◌, length, get_or};
 ghost use Rattle.std.proofs.Math.Option.{none, some};
 ghost use Rattle.basis.specs.Atoms.{InRange};
-ghost use Rattle.lists.specs.Arrays.{exactly};
 ghost use Rattle.lists.specs.Tests.{Decides};
-ghost use Rattle.basis.specs.Limits.{most_predicates};
 ghost use Rattle.calculus.specs.Clauses.{no_clause};
 ghost use Rattle.clauses.specs.Records.{packed};
 ghost use Rattle.text.specs.Text.{Wrote};
@@ -15,12 +13,9 @@ ghost use Rattle.lookup.specs.TableClauses.{at_least, at_most, gets, gets_aritie
 ghost use Rattle.lookup.specs.Making.{Makes, bytes_for};
 ghost use Rattle.lookup.specs.Claims.{TableAccepted};
 
-use basis::{
-    Atom, BUFFER_SHORT, Literal, MOST_C, MOST_PREDICATES, MOST_ROWS, NOT_IN_ORDER, TOO_MANY_ROWS,
-};
+use basis::{Atom, Literal, MOST_C, MOST_ROWS, Refusal, Refused};
 use clausebytes::put_clause;
 use clauses::{Clause, no_clause};
-use slices::word_at;
 
 // An atom: p, q and the four bytes of c
 const ATOM_BYTES: usize = 6;
@@ -35,62 +30,37 @@ pub enum Match {
     Approximate,
 }
 
-// How many bytes were written; or a refusal, after which the buffer is as it was.
-#[derive(Clone, Copy)]
-pub enum Tabled {
-    Bytes { count: usize },
-    Refused { number: u8, place: u8 },
-}
-
 // ---- which tables are in order
 
 // Whether c is from -1,000,000 to 1,000,000.
 fn in_range(c: i32) -> bool
     ensures { Decides (InRange c) result }
 {
-    if c < -MOST_C {
-        return false;
-    }
-    if MOST_C < c {
-        return false;
-    }
-    true
+    -MOST_C <= c && c <= MOST_C
 }
 
 // Whether the key of row j is above the one before it, if there is one
 fn rises(keys: &[i32], j: usize) -> bool
+    requires { j < length keys.now }
     ensures { Decides ((i : ℕ) → j ≡ suc i → get_or keys.now i (pos 0) <ℤ get_or keys.now j (pos 0)) result }
 {
-    if j == 0 {
-        return true;
-    }
-    word_at(keys, j - 1) < word_at(keys, j)
+    j == 0 || keys[j - 1] < keys[j]
 }
 
 fn row_in_order(keys: &[i32], results: &[i32], j: usize) -> bool
+    requires { j < length keys.now }
     ensures { Decides (RowInOrder keys.now results.now j) result }
 {
-    if results.len() <= j {
-        return false;
-    }
-    if !rises(keys, j) {
-        return false;
-    }
-    if !in_range(word_at(keys, j)) {
-        return false;
-    }
-    in_range(word_at(results, j))
+    j < results.len() && rises(keys, j) && in_range(keys[j]) && in_range(results[j])
 }
 
 fn in_order(keys: &[i32], results: &[i32]) -> bool
     ensures { Decides (InOrder keys.now results.now) result }
 {
-    let mut j: usize = 0;
-    while j < keys.len() {
+    for j in 0..keys.len() {
         if !row_in_order(keys, results, j) {
             return false;
         }
-        j += 1;
     }
     true
 }
@@ -161,15 +131,15 @@ fn row_clause(keys: &[i32], results: &[i32], kind: Match, j: usize) -> Clause
     requires { InOrder keys.now results.now × (j < length keys.now) }
     ensures { result ≡ packed (get_or (table_clauses kind (rows_of keys.now results.now)) j no_clause) }
 {
-    let key = word_at(keys, j);
-    let result = word_at(results, j);
+    let key = keys[j];
+    let result = results[j];
     match kind {
         Match::Exact => banded(key, key, result),
         Match::Approximate => {
             if keys.len() <= j + 1 {
                 return endless(key, result);
             }
-            banded(key, word_at(keys, j + 1) - 1, result)
+            banded(key, keys[j + 1] - 1, result)
         }
     }
 }
@@ -181,23 +151,18 @@ fn room(keys: &[i32], results: &[i32], kind: Match) -> usize
     requires { TableAccepted keys.now results.now }
     ensures { result ≡ length (bytes_for keys.now results.now kind) }
 {
-    let n = keys.len();
-    if n == 0 {
-        return 0;
-    }
+    let most = ROW_BYTES * keys.len();
     match kind {
-        Match::Exact => ROW_BYTES * n,
-        Match::Approximate => ROW_BYTES * n - ATOM_BYTES,
+        Match::Exact => most,
+        Match::Approximate => most.saturating_sub(ATOM_BYTES),
     }
 }
 
 // Gets alone, of arity 2
-fn gets_alone() -> [u8; MOST_PREDICATES]
-    ensures { result ≡ exactly most_predicates 0 gets_arities }
+fn gets_alone() -> [u8; 1]
+    ensures { result ≡ gets_arities }
 {
-    let mut arities = [0u8; MOST_PREDICATES];
-    arities[0] = 2;
-    arities
+    [2]
 }
 
 fn put_rows(keys: &[i32], results: &[i32], kind: Match, out: &mut [u8]) -> usize
@@ -205,39 +170,41 @@ fn put_rows(keys: &[i32], results: &[i32], kind: Match, out: &mut [u8]) -> usize
     ensures { Wrote out.old 0 (bytes_for keys.now results.now kind) out.new result }
 {
     let arities = gets_alone();
-    let mut at: usize = 0;
-    let mut j: usize = 0;
-    while j < keys.len() {
+    let mut at = 0;
+    for j in 0..keys.len() {
         let c = row_clause(keys, results, kind, j);
-        at = put_clause(out, at, 1, arities, c);
-        j += 1;
+        at = put_clause(out, at, &arities, c);
     }
     at
 }
 
-// The clauses of the table that keys and results make, row by row, at the front of the buffer
-pub fn clauses_from(keys: &[i32], results: &[i32], kind: Match, out: &mut [u8]) -> Tabled
+// The clauses of the table that keys and results make, row by row, at the front of the buffer, and how many bytes they have; or a refusal,
+// after which the buffer is as it was
+pub fn clauses_from(
+    keys: &[i32],
+    results: &[i32],
+    kind: Match,
+    out: &mut [u8],
+) -> Result<usize, Refused<u8>>
     ensures { Makes keys.now results.now kind out.old out.new result }
 {
     if MOST_ROWS < keys.len() {
-        return Tabled::Refused {
-            number: TOO_MANY_ROWS,
+        return Err(Refused {
+            refusal: Refusal::TooManyRows,
             place: 0,
-        };
+        });
     }
     if !in_order(keys, results) {
-        return Tabled::Refused {
-            number: NOT_IN_ORDER,
+        return Err(Refused {
+            refusal: Refusal::NotInOrder,
             place: 0,
-        };
+        });
     }
     if out.len() < room(keys, results, kind) {
-        return Tabled::Refused {
-            number: BUFFER_SHORT,
+        return Err(Refused {
+            refusal: Refusal::BufferShort,
             place: 0,
-        };
+        });
     }
-    Tabled::Bytes {
-        count: put_rows(keys, results, kind, out),
-    }
+    Ok(put_rows(keys, results, kind, out))
 }

@@ -2,19 +2,23 @@
 use mathlib.Core.Path.{◌≡◌, refl, sym, ◌∙◌, ap, ap₂}
 use mathlib.Core.List.{List, [], ◌∷◌, ◌++◌, map, append-nil, map-append}
 use mathlib.Core.Bool.{Bool, true, false, not, ◌||◌, cond}
-use Prim.Native.Nat.{ℕ, zero, suc, ◌+◌, ◌≤◌, ◌<◌, min}
+use Prim.Native.Nat.{ℕ, zero, suc, ◌+◌, ◌≤◌, ◌<◌}
 use native.Mathlib.Omega.{arith}
-use lib.Dec.{eqb, eqb-zero-suc, eqb-suc-zero, eqb-suc-suc, leb}
-use lib.ListN.{length, get_or, take, length-map, length-take, length-append}
-use lib.Seq.{take-take, take_all}
+use lib.Dec.{eqb, eqb-zero-suc, eqb-suc-zero, eqb-suc-suc}
+use borrow.Author.Tests.{eq-eqb, ne_eqb}
+use lib.ListN.{length, get_or, take, length-map, length-take}
+use Rattle.std.specs.List.{count_by}
+use Rattle.std.proofs.Common.{filter}
+use Rattle.std.proofs.lemmas.List.Sums.{length-filter}
 use Rattle.basis.specs.declared.Literal.{Literal}
 use Rattle.lists.specs.Lists.{keep_if, pair_up}
 use Rattle.lists.proofs.Walks.{take_more, keep_if_more, keep_if_short}
 use Rattle.calculus.specs.Clauses.{arguments, no_literal, same_literal, ground}
 use Rattle.calculus.specs.Merging.{join, joins, own_pairs, reason_literals, own_index}
-use Rattle.joining.specs.declared.Literals.{Literals}
-use Rattle.joining.specs.Scratch.{both_literals, held_literals}
-use Rattle.merging.proofs.Appending.{push_literal, push_literal_lem}
+use Rattle.lists.specs.declared.Held.{Held}
+use Rattle.lists.specs.Arrays.{held, pushed}
+use Rattle.joining.specs.Scratch.{both_literals}
+use Rattle.joining.proofs.Scratch.{held_more}
 
 joins_append : (es fs : List (ℕ × ℕ)) (σ : List ℕ) → joins (es ++ fs) σ ≡ joins fs (joins es σ)
 joins_append [] fs σ = refl
@@ -55,9 +59,19 @@ module _ (τ : List ℕ) (g l : Literal) where
       e ∙ ap₂ (λ (b : Bool) (o : List ℕ). cond b (joins (pair_up (arguments l) (arguments (get_or a j no_literal))) o) o) eb eo
       ∙ sym (ap (λ (ls : List Literal). joined_own ls σ) (take_more a j no_literal h) ∙ own_more (take j a) (get_or a j no_literal) σ)
 
-module _ (τ : List ℕ) (g : Literal) where
-  -- ---- the literals that stay
+-- ---- the literals that stay
 
+module _ (j i : ℕ) where
+  pub stays_at : (own : Bool) → j ≡ i → true ≡ (eqb j i || not own)
+  stays_at own e = rw (eq-eqb j i e)
+
+  pub stays_other : (own : Bool) → (j ≡ i → ⊥) → own ≡ false → true ≡ (eqb j i || not own)
+  stays_other own n e = rw (ne_eqb j i n, e)
+
+  pub goes : (own : Bool) → (j ≡ i → ⊥) → own ≡ true → false ≡ (eqb j i || not own)
+  goes own n e = rw (ne_eqb j i n, e)
+
+module _ (τ : List ℕ) (g : Literal) where
   stay_more : (i : ℕ) (xs : List Literal) (x : Literal) →
       reason_literals τ g i (xs ++ (x ∷ [])) ≡ cond (eqb (length xs) i || not (same_literal (ground τ x) g)) (reason_literals τ g i xs ++ (x ∷ [])) (reason_literals τ g i xs)
   stay_more zero [] x = refl
@@ -92,9 +106,9 @@ module _ (τ : List ℕ) (g : Literal) where
   pub stay_few : (i : ℕ) (a : List Literal) (j : ℕ) → length (reason_literals τ g i (take j a)) ≤ j
   stay_few i a j = omega (arith, stay_short i (take j a), length-take j a)
 
-  pub stay_turn : (f : Literal → Literal) (i : ℕ) (a : List Literal) (j : ℕ) (o o' : Literals) (m : Literal) (b : Bool) → j < length a → j < both_literals →
-      o ≡ held_literals (map f (reason_literals τ g i (take j a))) → m ≡ f (get_or a j no_literal) → b ≡ (eqb j i || not (same_literal (ground τ (get_or a j no_literal)) g)) →
-      o' ≡ cond b (push_literal o m) o → o' ≡ held_literals (map f (reason_literals τ g i (take (j + 1) a)))
+  pub stay_turn : (f : Literal → Literal) (i : ℕ) (a : List Literal) (j : ℕ) (o o' : Held Literal both_literals) (m : Literal) (b : Bool) → j < length a → j < both_literals →
+      o ≡ held both_literals no_literal (map f (reason_literals τ g i (take j a))) → m ≡ f (get_or a j no_literal) → b ≡ (eqb j i || not (same_literal (ground τ (get_or a j no_literal)) g)) →
+      o' ≡ cond b (pushed o m) o → o' ≡ held both_literals no_literal (map f (reason_literals τ g i (take (j + 1) a)))
   stay_turn f i a j o o' m b h k eo em eb e =
       let x = get_or a j no_literal in
       let r = reason_literals τ g i (take j a) in
@@ -102,53 +116,23 @@ module _ (τ : List ℕ) (g : Literal) where
       let more : reason_literals τ g i (take (j + 1) a) ≡ cond b (r ++ (x ∷ [])) r =
       ap (reason_literals τ g i) (take_more a j no_literal h) ∙ stay_more i (take j a) x
       ∙ ap (λ (n : ℕ). cond (eqb n i || not (same_literal (ground τ x) g)) (r ++ (x ∷ [])) r) n ∙ ap (λ (t : Bool). cond t (r ++ (x ∷ [])) r) (sym eb) in
-      e ∙ ap₂ (λ (o : Literals) (m : Literal). cond b (push_literal o m) o) eo em ∙ go r x (stay_few i a j) b ∙ ap (λ (l : List Literal). held_literals (map f l)) (sym more)
+      e ∙ ap₂ (λ (o : Held Literal both_literals) (m : Literal). cond b (pushed o m) o) eo em ∙ go r x (stay_few i a j) b ∙ ap (λ (l : List Literal). held both_literals no_literal (map f l)) (sym more)
     where
-      go : (r : List Literal) (x : Literal) → length r ≤ j → (t : Bool) → cond t (push_literal (held_literals (map f r)) (f x)) (held_literals (map f r)) ≡ held_literals (map f (cond t (r ++ (x ∷ [])) r))
-      go r x s true = push_literal_lem (map f r) (f x) (omega (arith, length-map r f)) ∙ ap held_literals (sym (map-append f r (x ∷ [])))
+      go : (r : List Literal) (x : Literal) → length r ≤ j → (t : Bool) → cond t (pushed (held both_literals no_literal (map f r)) (f x)) (held both_literals no_literal (map f r)) ≡ held both_literals no_literal (map f (cond t (r ++ (x ∷ [])) r))
+      go r x s true = held_more no_literal (map f r) (f x) (omega (arith, length-map r f)) ∙ ap (held both_literals no_literal) (sym (map-append f r (x ∷ [])))
       go r x s false = refl
 
   -- ---- where the own literal then stands
 
-  -- How many of xs have another instance
-  abbrev pub others : List Literal → ℕ
-  others xs = length (keep_if (λ m. not (same_literal (ground τ m) g)) xs)
-
-  index_is : (i : ℕ) (xs : List Literal) → own_index τ g i xs ≡ others (take i xs)
-  index_is zero [] = refl
-  index_is (suc i) [] = refl
-  index_is zero (y ∷ ys) = refl
-  index_is (suc i) (y ∷ ys) = ap (λ (r : ℕ). cond (same_literal (ground τ y) g) r (suc r)) (index_is i ys) ∙ go (same_literal (ground τ y) g) (keep_if (λ m. not (same_literal (ground τ m) g)) (take i ys))
+  others : (i : ℕ) (xs : List Literal) → length (filter (λ m. not (same_literal (ground τ m) g)) (take i xs)) ≡ own_index τ g i xs
+  others zero [] = refl
+  others (suc i) [] = refl
+  others zero (y ∷ ys) = refl
+  others (suc i) (y ∷ ys) = go (same_literal (ground τ y) g) (filter (λ m. not (same_literal (ground τ m) g)) (take i ys)) (others i ys)
     where
-      go : (b : Bool) (r : List Literal) → cond b (length r) (suc (length r)) ≡ length (cond (not b) (y ∷ r) r)
-      go true r = refl
-      go false r = refl
+      go : (b : Bool) (r : List Literal) {n : ℕ} → length r ≡ n → length (cond (not b) (y ∷ r) r) ≡ cond b n (suc n)
+      go true r e = e
+      go false r e = ap suc e
 
-  pub others_few : (a : List Literal) (j : ℕ) → others (take j a) ≤ j
-  others_few a j = omega (arith, keep_if_short (λ m. not (same_literal (ground τ m) g)) (take j a), length-take j a)
-
-  pub others_turn : (a : List Literal) (j k k' : ℕ) (b : Bool) → j < length a → k ≡ others (take j a) → b ≡ same_literal (ground τ (get_or a j no_literal)) g →
-      k' ≡ cond b k (k + 1) → k' ≡ others (take (j + 1) a)
-  others_turn a j k k' b h ek eb e =
-      e ∙ ap₂ (λ (b : Bool) (k : ℕ). cond b k (k + 1)) eb ek ∙ go (same_literal (ground τ x) g) (keep_if (λ m. not (same_literal (ground τ m) g)) (take j a))
-      ∙ sym (ap others (take_more a j no_literal h) ∙ ap length (keep_if_more (λ m. not (same_literal (ground τ m) g)) (take j a) x))
-    where
-      x : Literal
-      x = get_or a j no_literal
-
-      go : (b : Bool) (f : List Literal) → cond b (length f) (length f + 1) ≡ length (cond (not b) (f ++ (x ∷ [])) f)
-      go true f = refl
-      go false f = sym (length-append f (x ∷ []))
-
-  pub others_done : (i n : ℕ) (a : List Literal) → others (take (min i n) a) ≡ own_index τ g i (take n a)
-  others_done i n a = sym (index_is i (take n a) ∙ ap others (go (leb i n) refl))
-    where
-      go : (b : Bool) → leb i n ≡ b → take i (take n a) ≡ take (min i n) a
-      go true e =
-          let h : i ≤ n = omega (arith, borrow.Author.Tests.leb-true i n e) in
-          let m : i ≡ min i n = omega arith in
-          take-take i n a h ∙ ap (λ (k : ℕ). take k a) m
-      go false e =
-          let h : n < i = borrow.Author.Tests.leb-false i n e in
-          let m : n ≡ min i n = omega arith in
-          take_all i (take n a) (omega (arith, length-take n a)) ∙ ap (λ (k : ℕ). take k a) m
+  pub own_index_is : (i : ℕ) (xs : List Literal) → count_by (λ m. not (same_literal (ground τ m) g)) (take i xs) ≡ own_index τ g i xs
+  own_index_is i xs = sym (length-filter (λ m. not (same_literal (ground τ m) g)) (take i xs)) ∙ others i xs

@@ -1,7 +1,7 @@
 -- What merging gives back says the calculus's clauses, and can be merged again.
 use mathlib.Core.Path.{◌≡◌, refl, sym, ◌∙◌, ap, subst}
 use mathlib.Core.List.{List}
-use mathlib.Core.Bool.{Bool, true, false, ◌&&◌, cond, false≢true}
+use mathlib.Core.Bool.{Bool, true, false, ◌&&◌, cond}
 use Prim.Native.Nat.{ℕ}
 use native.Mathlib.Omega.{arith}
 use lib.Dec.{T}
@@ -13,11 +13,12 @@ use Rattle.calculus.specs.Clauses as calculus
 use Rattle.calculus.specs.Merging.{occurs_in, close_up, merge, own_pairs, reason_literals, reason, resolvent, factored}
 use Rattle.calculus.specs.Class.{within_limits, Limited}
 use Rattle.calculus.proofs.Class.{limited_of}
+use Rattle.std.proofs.Common.{Some, None}
 use Rattle.clauses.specs.declared.Clause.{Clause}
+use Rattle.clauses.specs.declared.Instanced.{Instanced}
 use Rattle.clauses.specs.Records.{clause_of, instanced_of, packed, packed_instanced, counted, Counted}
 use Rattle.clauses.proofs.Records.{packed_instanced_says, counted_facts}
-use Rattle.joining.specs.declared.Merged.{Merged}
-use Rattle.joining.specs.Fitted.{too_large, fitted}
+use Rattle.joining.specs.Fitted.{fitted}
 use Rattle.merging.specs.Results.{packed_reason, no_reason, resolved, factorized, reason_of, ResolvedSays, FactorizedSays, ReasonSays, CanBeMerged}
 use Rattle.merging.proofs.Own.{stay_few}
 use Rattle.merging.proofs.Whole.{merge_limits, few_atoms}
@@ -56,48 +57,38 @@ none_counted : Counted (packed calculus.no_clause)
 none_counted = record { few_variables = omega arith; few_atoms = omega arith; few_literals = omega arith }
 
 module _ (N : calculus.Instanced) where
-  fitted_says : length N.instance ≡ N.clause.variables → (fitted N).fits ≡ true → instanced_of (fitted N).of ≡ N
+  fitted_limited : (m : Instanced) → fitted N ≡ Some m → (m ≡ packed_instanced N) × Limited N.clause
   unfolding fitted
-  fitted_says z = go (within_limits N.clause) refl
+  fitted_limited m = go (within_limits N.clause) refl
     where
-      go : (b : Bool) → within_limits N.clause ≡ b → (cond b (record { fits = true; of = packed_instanced N }) too_large).fits ≡ true → instanced_of (cond b (record { fits = true; of = packed_instanced N }) too_large).of ≡ N
-      go true e h = packed_instanced_says N (limited N.clause e) z
-      go false e h = absurd (false≢true h)
+      go : (b : Bool) → within_limits N.clause ≡ b → cond b (Some (packed_instanced N)) None ≡ Some m → (m ≡ packed_instanced N) × Limited N.clause
+      go true e h = (cc, limited N.clause e)
+      go false e h = cc
 
-  fitted_counted : Counted (fitted N).of.clause
-  unfolding fitted
-  fitted_counted = go (within_limits N.clause) refl
-    where
-      go : (b : Bool) → within_limits N.clause ≡ b → Counted (cond b (record { fits = true; of = packed_instanced N }) too_large).of.clause
-      go true e = packed_counted N.clause (limited N.clause e)
-      go false e = none_counted
+  module _ (z : length N.instance ≡ N.clause.variables) (b : Bool) (m : Instanced) where
+    merged_says : cond b (fitted N) None ≡ Some m → instanced_of m ≡ N
+    merged_says = go b
+      where
+        go : (b : Bool) → cond b (fitted N) None ≡ Some m → instanced_of m ≡ N
+        go true h = let (e, l) = fitted_limited m h in ap instanced_of e ∙ packed_instanced_says N l z
+        go false h = cc
+
+  merged_counted : (b : Bool) (m : Instanced) → cond b (fitted N) None ≡ Some m → Counted m.clause
+  merged_counted true m h = let (e, l) = fitted_limited m h in subst (λ (n : Instanced). Counted n.clause) (sym e) (packed_counted N.clause l)
+  merged_counted false m h = cc
 
 -- ---- the three
 
 pub resolved_says : ResolvedSays
 unfolding resolved
-resolved_says n r j i = go (counted n.clause && counted r.clause)
-  where
-    N : calculus.Instanced
-    N = resolvent (instanced_of n) j (instanced_of r) i
-
-    go : (b : Bool) → (cond b (fitted N) too_large).fits ≡ true → instanced_of (cond b (fitted N) too_large).of ≡ N
-    go true h = fitted_says N (resolvent_sized (instanced_of n) (instanced_of r) j i) h
-    go false h = absurd (false≢true h)
+resolved_says n r m j i = merged_says (resolvent (instanced_of n) j (instanced_of r) i) (resolvent_sized (instanced_of n) (instanced_of r) j i) (counted n.clause && counted r.clause) m
 
 pub factorized_says : FactorizedSays
 unfolding factorized
-factorized_says n i j = go (counted n.clause)
-  where
-    N : calculus.Instanced
-    N = factored (instanced_of n) i j
+factorized_says n m i j = merged_says (factored (instanced_of n) i j) (factored_sized (instanced_of n) i j) (counted n.clause) m
 
-    go : (b : Bool) → (cond b (fitted N) too_large).fits ≡ true → instanced_of (cond b (fitted N) too_large).of ≡ N
-    go true h = fitted_says N (factored_sized (instanced_of n) i j) h
-    go false h = absurd (false≢true h)
-
--- A reason is within the limits of its clause.
-reason_fits : (c : Clause) (i : ℕ) (τ : List ℕ) → Counted c → fitted (reason (clause_of c) i τ).of ≡ record { fits = true; of = packed_instanced (reason (clause_of c) i τ).of }
+-- The reason is within the clause's own limits.
+reason_fits : (c : Clause) (i : ℕ) (τ : List ℕ) → Counted c → fitted (reason (clause_of c) i τ).of ≡ Some (packed_instanced (reason (clause_of c) i τ).of)
 unfolding reason
 reason_fits c i τ h =
     let l = get_or (clause_of c).literals i calculus.no_literal in
@@ -109,9 +100,8 @@ pub reason_says : ReasonSays
 unfolding reason_of
 reason_says c i τ e =
     let R = reason (clause_of c) i (take c.variables τ) in
-    let whole = reason_fits c i (take c.variables τ) (counted_facts c e) in
     ap (λ (b : Bool). instanced_of (cond b (packed_reason R) no_reason).of) e
-    ∙ ap (λ (m : Merged). instanced_of m.of) (sym whole) ∙ fitted_says R.of (reason_sized (clause_of c) i (take c.variables τ)) (ap (λ (m : Merged). m.fits) whole)
+    ∙ packed_instanced_says R.of (fitted_limited R.of _ (reason_fits c i (take c.variables τ) (counted_facts c e))).1 (reason_sized (clause_of c) i (take c.variables τ))
 
 reason_counted : (c : Clause) (i : ℕ) (τ : List ℕ) → Counted (reason_of c i τ).of.clause
 unfolding reason_of
@@ -121,14 +111,10 @@ reason_counted c i τ = go (counted c) refl
     R = (reason (clause_of c) i (take c.variables τ)).of
 
     go : (b : Bool) → counted c ≡ b → Counted (cond b (packed_reason (reason (clause_of c) i (take c.variables τ))) no_reason).of.clause
-    go true e = subst (λ (m : Merged). Counted m.of.clause) (reason_fits c i (take c.variables τ) (counted_facts c e)) (fitted_counted R)
+    go true e = packed_counted R.clause (fitted_limited R _ (reason_fits c i (take c.variables τ) (counted_facts c e))).1
     go false e = none_counted
 
 pub can_be_merged : CanBeMerged
 unfolding resolved factorized
 can_be_merged =
-    (λ n r j i. go (counted n.clause && counted r.clause) (resolvent (instanced_of n) j (instanced_of r) i), λ n i j. go (counted n.clause) (factored (instanced_of n) i j), reason_counted)
-  where
-    go : (b : Bool) (N : calculus.Instanced) → Counted (cond b (fitted N) too_large).of.clause
-    go true N = fitted_counted N
-    go false N = none_counted
+    (λ n r m j i. merged_counted (resolvent (instanced_of n) j (instanced_of r) i) (counted n.clause && counted r.clause) m, λ n m i j. merged_counted (factored (instanced_of n) i j) (counted n.clause) m, reason_counted)

@@ -9,9 +9,12 @@ use lib.ListN.{length, get_or, length-map, length-take, length-append}
 use borrow.Author.Tests.{ne_eqb}
 use Rattle.basis.specs.declared.Atom.{Atom}
 use Rattle.basis.specs.declared.Literal.{Literal}
+use Rattle.std.proofs.Common.{Some}
+use Rattle.basis.specs.Atoms.{no_atom}
 use Rattle.basis.specs.Limits.{most_variables, most_atoms, most_literals}
 use Rattle.lists.specs.Lists.{up_from, keep_if, any_of, without, pair_up}
-use Rattle.lists.specs.Arrays.{exactly}
+use Rattle.lists.specs.declared.Held.{Held}
+use Rattle.lists.specs.Arrays.{exactly, held, held_in}
 use Rattle.lists.proofs.Arrays.{get_d_held, map_exactly}
 use Rattle.lists.proofs.Walks.{keep_if_more, without_short, up_from_length}
 use Rattle.calculus.specs.Clauses.{arguments, no_literal, same_atom, rename_atom, rename_literal, under, Instanced}
@@ -19,13 +22,10 @@ use Rattle.calculus.specs.Merging.{join, joins, distinct, occurs_in, close_up, m
 use Rattle.calculus.proofs.Merged.{same_atom→eq, distinct_short}
 use Rattle.clauses.specs.declared.Clause.{Clause}
 use Rattle.clauses.specs.Records.{clause_of, packed_instanced, Counted}
-use Rattle.joining.specs.declared.Atoms.{Atoms}
-use Rattle.joining.specs.declared.Literals.{Literals}
-use Rattle.joining.specs.declared.Names.{Names}
-use Rattle.joining.specs.Scratch.{both_variables, both_atoms, both_literals, atoms_in, literals_in, held_atoms, held_literals, held_names, closed, through}
+use Rattle.joining.specs.Scratch.{both_variables, both_atoms, both_literals, through}
 use Rattle.joining.specs.Fitted.{fitted}
 use Rattle.joining.proofs.Closing.{close_fits}
-use Rattle.joining.proofs.Scratch.{atoms_in_lem, literals_in_lem, kept_short}
+use Rattle.joining.proofs.Scratch.{apart_none, held_read, kept_short}
 use Rattle.merging.specs.Added.{add_one, add_each}
 
 -- ---- tables longer than they need be
@@ -57,20 +57,15 @@ joins_exactly n [] σ h = refl
 joins_exactly n (e ∷ es) σ h =
     ap (joins es) (join_exactly n e.0 e.1 σ h) ∙ joins_exactly n es (join e.0 e.1 σ) (omega (arith, length-map σ (λ z. cond (eqb z (max (under σ e.0) (under σ e.1))) (min (under σ e.0) (under σ e.1)) z)))
 
-pub merge_is : (es : List (ℕ × ℕ)) (v : ℕ) (az : List Atom) (ls : List Literal) (τ : List ℕ) {t u : List ℕ} → v ≤ both_variables → length τ ≤ both_variables →
-    t ≡ joins es (exactly both_variables 0 (up_from 1 v)) → u ≡ exactly both_variables 0 τ →
-    close_up v (distinct (map (rename_atom (under t)) az)) (map (rename_literal (under t)) ls) u ≡ merge es v az ls τ
-unfolding merge close_up
-merge_is es v az ls τ {t} {u} h k et eu =
+merge_is : (es : List (ℕ × ℕ)) (v : ℕ) (az : List Atom) (ls : List Literal) (τ : List ℕ) {t : List ℕ} → v ≤ both_variables →
+    t ≡ joins es (exactly both_variables 0 (up_from 1 v)) →
+    close_up v (distinct (map (rename_atom (under t)) az)) (map (rename_literal (under t)) ls) τ ≡ merge es v az ls τ
+unfolding merge
+merge_is es v az ls τ {t} h et =
     let few : length (up_from 1 v) ≤ both_variables = omega (arith, up_from_length 1 v) in
     let σ = joins es (up_from 1 v) in
     let table : under t ≡ under σ = ap under (et ∙ joins_exactly both_variables es (up_from 1 v) few) ∙ under_exactly both_variables σ (omega (arith, joins_length es (up_from 1 v))) in
-    ap₂ (λ (f g : ℕ → ℕ). closing v (distinct (map (rename_atom f) az)) (map (rename_literal f) ls) g) table (ap under eu ∙ under_exactly both_variables τ k)
-  where
-    closing : ℕ → List Atom → List Literal → (ℕ → ℕ) → Instanced
-    closing v az ls g =
-        let ks = keep_if (occurs_in az ls) (up_from 1 v) in
-        record { clause = record { variables = length ks; atoms = map (rename_atom (closed ks)) az; literals = map (rename_literal (closed ks)) ls }; instance = map g ks }
+    ap (λ (f : ℕ → ℕ). close_up v (distinct (map (rename_atom f) az)) (map (rename_literal f) ls) τ) table
 
 -- ---- atoms each once
 
@@ -107,55 +102,81 @@ add_each_distinct xs [] = ap distinct (sym (mathlib.Core.List.append-nil xs))
 add_each_distinct xs (y ∷ ys) =
     ap (λ (l : List Atom). add_each l ys) (sym (distinct_more xs y)) ∙ add_each_distinct (xs ++ (y ∷ [])) ys ∙ ap distinct (append_assoc xs (y ∷ []) ys)
 
--- ---- two clauses together
+-- ---- what is held of one clause, and of two together
 
-module _ (t : List ℕ) (v : ℕ) where
-  pub both_atoms_held : (xs ys : List Atom) {a b : Atoms} → length xs ≤ most_atoms → a ≡ held_atoms (distinct (map (rename_atom (under t)) xs)) →
-      b ≡ held_atoms (add_each (atoms_in a) (map (rename_atom (through t v)) ys)) → b ≡ held_atoms (distinct (map (rename_atom (under t)) (xs ++ map (rename_atom (apart v)) ys)))
-  both_atoms_held xs ys h ea eb =
-      let fx = map (rename_atom (under t)) xs in
-      let fy = map (rename_atom (through t v)) ys in
-      let read = atoms_in_lem (distinct fx) (omega (arith, distinct_short fx, length-map xs (rename_atom (under t)))) ea in
-      eb ∙ ap held_atoms (ap (λ (l : List Atom). add_each l fy) read ∙ add_each_distinct fx fy
-      ∙ ap distinct (ap (λ (l : List Atom). fx ++ l) (sym (map-map (rename_atom (under t)) (rename_atom (apart v)) ys)) ∙ sym (map-append (rename_atom (under t)) xs (map (rename_atom (apart v)) ys))))
+module _ (t : List ℕ) where
+  first : through t 0 ≡ under t
+  first = let after : (ℕ → ℕ) → ℕ → ℕ = λ f x. under t (f x) in ap after apart_none
 
-  pub both_literals_held : (xs ys : List Literal) {a b : Literals} → length xs ≤ both_literals → a ≡ held_literals (map (rename_literal (under t)) xs) →
-      b ≡ held_literals (literals_in a ++ map (rename_literal (through t v)) ys) → b ≡ held_literals (map (rename_literal (under t)) (xs ++ map (rename_literal (apart v)) ys))
-  both_literals_held xs ys h ea eb =
-      let fx = map (rename_literal (under t)) xs in
-      let read = literals_in_lem fx (omega (arith, length-map xs (rename_literal (under t)))) ea in
-      eb ∙ ap held_literals (ap₂ (λ (l m : List Literal). l ++ m) read (sym (map-map (rename_literal (under t)) (rename_literal (apart v)) ys))
-      ∙ sym (map-append (rename_literal (under t)) xs (map (rename_literal (apart v)) ys)))
+  pub atoms_first : (xs : List Atom) {ys : List Atom} {o a : Held Atom both_atoms} → ys ≡ xs → o ≡ held both_atoms no_atom [] →
+      a ≡ held both_atoms no_atom (add_each (held_in o) (map (rename_atom (through t 0)) ys)) → a ≡ held both_atoms no_atom (distinct (map (rename_atom (under t)) xs))
+  atoms_first xs {ys} {o} e eo ea =
+      ea ∙ ap (λ (l : List Atom). held both_atoms no_atom (add_each (held_in o) (map (rename_atom (through t 0)) l))) e
+      ∙ ap (held both_atoms no_atom) (ap₂ (λ (l : List Atom) (f : ℕ → ℕ). add_each l (map (rename_atom f) xs)) (held_read no_atom [] (omega arith) eo) first
+      ∙ add_each_distinct [] (map (rename_atom (under t)) xs))
+
+  pub literals_first : (xs : List Literal) {ys : List Literal} {o a : Held Literal both_literals} → ys ≡ xs → o ≡ held both_literals no_literal [] →
+      a ≡ held both_literals no_literal (held_in o ++ map (rename_literal (through t 0)) ys) → a ≡ held both_literals no_literal (map (rename_literal (under t)) xs)
+  literals_first xs {ys} {o} e eo ea =
+      ea ∙ ap (λ (l : List Literal). held both_literals no_literal (held_in o ++ map (rename_literal (through t 0)) l)) e
+      ∙ ap (held both_literals no_literal) (ap₂ (λ (l : List Literal) (f : ℕ → ℕ). l ++ map (rename_literal f) xs) (held_read no_literal [] (omega arith) eo) first)
+
+  module _ (v : ℕ) where
+    pub atoms_both : (xs ys : List Atom) {zs : List Atom} {a b : Held Atom both_atoms} → zs ≡ ys → length xs ≤ both_atoms → a ≡ held both_atoms no_atom (distinct (map (rename_atom (under t)) xs)) →
+        b ≡ held both_atoms no_atom (add_each (held_in a) (map (rename_atom (through t v)) zs)) → b ≡ held both_atoms no_atom (distinct (map (rename_atom (under t)) (xs ++ map (rename_atom (apart v)) ys)))
+    atoms_both xs ys {zs} {a} e h ea eb =
+        let fx = map (rename_atom (under t)) xs in
+        let fy = map (rename_atom (through t v)) ys in
+        let read = held_read no_atom (distinct fx) (omega (arith, distinct_short fx, length-map xs (rename_atom (under t)))) ea in
+        eb ∙ ap (λ (l : List Atom). held both_atoms no_atom (add_each (held_in a) (map (rename_atom (through t v)) l))) e
+        ∙ ap (held both_atoms no_atom) (ap (λ (l : List Atom). add_each l fy) read ∙ add_each_distinct fx fy
+        ∙ ap distinct (ap (λ (l : List Atom). fx ++ l) (sym (map-map (rename_atom (under t)) (rename_atom (apart v)) ys)) ∙ sym (map-append (rename_atom (under t)) xs (map (rename_atom (apart v)) ys))))
+
+    pub literals_both : (xs ys : List Literal) {zs : List Literal} {a b : Held Literal both_literals} → zs ≡ ys → length xs ≤ both_literals → a ≡ held both_literals no_literal (map (rename_literal (under t)) xs) →
+        b ≡ held both_literals no_literal (held_in a ++ map (rename_literal (through t v)) zs) → b ≡ held both_literals no_literal (map (rename_literal (under t)) (xs ++ map (rename_literal (apart v)) ys))
+    literals_both xs ys {zs} {a} e h ea eb =
+        let fx = map (rename_literal (under t)) xs in
+        let read = held_read no_literal fx (omega (arith, length-map xs (rename_literal (under t)))) ea in
+        eb ∙ ap (λ (l : List Literal). held both_literals no_literal (held_in a ++ map (rename_literal (through t v)) l)) e
+        ∙ ap (held both_literals no_literal) (ap₂ (λ (l m : List Literal). l ++ m) read (sym (map-map (rename_literal (under t)) (rename_literal (apart v)) ys))
+        ∙ sym (map-append (rename_literal (under t)) xs (map (rename_literal (apart v)) ys)))
+
+pub constants_first : (xs : List ℕ) {ys : List ℕ} {o a : Held ℕ both_variables} → ys ≡ xs → o ≡ held both_variables 0 [] → a ≡ held both_variables 0 (held_in o ++ ys) → a ≡ held both_variables 0 xs
+constants_first xs e eo ea = ea ∙ ap (held both_variables 0) (ap₂ (λ (l m : List ℕ). l ++ m) (held_read 0 [] (omega arith) eo) e)
+
+pub constants_both : (xs ys : List ℕ) {zs : List ℕ} {a b : Held ℕ both_variables} → zs ≡ ys → length xs ≤ both_variables → a ≡ held both_variables 0 xs → b ≡ held both_variables 0 (held_in a ++ zs) → b ≡ held both_variables 0 (xs ++ ys)
+constants_both xs ys e h ea eb = eb ∙ ap (held both_variables 0) (ap₂ (λ (l m : List ℕ). l ++ m) (held_read 0 xs h ea) e)
 
 -- ---- what is held is few
 
-pub atoms_few : (f : Atom → Atom) (xs : List Atom) (m : ℕ) {a : Atoms} → a ≡ held_atoms (distinct (map f xs)) → length xs ≤ m → a.n ≤ m
-atoms_few f xs m e h = omega (arith, ap (λ (l : Atoms). l.n) e, distinct_short (map f xs), length-map xs f)
+pub atoms_few : (f : Atom → Atom) (xs : List Atom) {a : Held Atom both_atoms} → a ≡ held both_atoms no_atom (distinct (map f xs)) → a.n ≤ length xs
+atoms_few f xs e = omega (arith, ap (λ (l : Held Atom both_atoms). l.n) e, distinct_short (map f xs), length-map xs f)
 
-pub literals_few : (f : Literal → Literal) (xs : List Literal) (m : ℕ) {a : Literals} → a ≡ held_literals (map f xs) → length xs ≤ m → a.n ≤ m
-literals_few f xs m e h = omega (arith, ap (λ (l : Literals). l.n) e, length-map xs f)
+pub literals_few : (f : Literal → Literal) (xs : List Literal) {a : Held Literal both_literals} → a ≡ held both_literals no_literal (map f xs) → a.n ≡ length xs
+literals_few f xs e = ap (λ (l : Held Literal both_literals). l.n) e ∙ length-map xs f
 
-pub both_length : {A : Type 0} (f : A → A) (xs ys : List A) → length (xs ++ map f ys) ≡ length xs + length ys
+both_length : {A : Type 0} (f : A → A) (xs ys : List A) → length (xs ++ map f ys) ≡ length xs + length ys
 both_length f xs ys = length-append xs (map f ys) ∙ ap (λ (n : ℕ). length xs + n) (length-map ys f)
 
 -- ---- the merge of what is held
 
-pub merge_made : (es : List (ℕ × ℕ)) (v : ℕ) (az : List Atom) (ls : List Literal) (τ : List ℕ) {t s : List ℕ} {a : Atoms} {l : Literals} {n : Names} →
-    v ≤ both_variables → length az ≤ both_atoms → length ls ≤ both_literals → length τ ≤ both_variables → s ≡ exactly both_variables 0 (up_from 1 v) → t ≡ joins es s →
-    a ≡ held_atoms (distinct (map (rename_atom (under t)) az)) → l ≡ held_literals (map (rename_literal (under t)) ls) → n ≡ held_names τ →
-    close_up v (atoms_in a) (literals_in l) n.at ≡ merge es v az ls τ
-merge_made es v az ls τ {t} {s} {a} {l} {n} hv ha hl hn es' et ea el en =
+pub merge_made : (es : List (ℕ × ℕ)) (v : ℕ) (az : List Atom) (ls : List Literal) (τ : List ℕ) {t s : List ℕ} {a : Held Atom both_atoms} {l : Held Literal both_literals} {cs : List Atom} {ds : List Literal} {n : List ℕ} {w : ℕ} →
+    w ≡ v → v ≤ both_variables → length az ≤ both_atoms → length ls ≤ both_literals → s ≡ exactly both_variables 0 (up_from 1 w) → t ≡ joins es s →
+    a ≡ held both_atoms no_atom (distinct (map (rename_atom (under t)) az)) → l ≡ held both_literals no_literal (map (rename_literal (under t)) ls) → cs ≡ held_in a → ds ≡ held_in l → n ≡ τ →
+    close_up w cs ds n ≡ merge es v az ls τ
+merge_made es v az ls τ {t} {s} {a} {l} {cs} {ds} {n} ew hv ha hl es' et ea el eas ebs en =
     let fa = map (rename_atom (under t)) az in
     let fl = map (rename_literal (under t)) ls in
-    ap₂ (λ (x : List Atom) (y : List Literal). close_up v x y n.at)
-    (atoms_in_lem (distinct fa) (omega (arith, distinct_short fa, length-map az (rename_atom (under t)))) ea)
-    (literals_in_lem fl (omega (arith, length-map ls (rename_literal (under t)))) el)
-    ∙ merge_is es v az ls τ hv hn (et ∙ ap (joins es) es') (ap (λ (m : Names). m.at) en)
+    ap (λ (u : ℕ). close_up u cs ds n) ew
+    ∙ ap₂ (λ (x : List Atom) (y : List Literal). close_up v x y n)
+    (eas ∙ held_read no_atom (distinct fa) (omega (arith, distinct_short fa, length-map az (rename_atom (under t)))) ea)
+    (ebs ∙ held_read no_literal fl (omega (arith, length-map ls (rename_literal (under t)))) el)
+    ∙ ap (close_up v (distinct fa) fl) en ∙ merge_is es v az ls τ hv (et ∙ ap (joins es) (es' ∙ ap (λ (u : ℕ). exactly both_variables 0 (up_from 1 u)) ew))
 
 -- ---- the limits of a reason
 
 pub merge_limits : (es : List (ℕ × ℕ)) (v : ℕ) (az : List Atom) (ls : List Literal) (τ : List ℕ) → v ≤ most_variables → length az ≤ most_atoms → length ls ≤ most_literals →
-    fitted (merge es v az ls τ) ≡ record { fits = true; of = packed_instanced (merge es v az ls τ) }
+    fitted (merge es v az ls τ) ≡ Some (packed_instanced (merge es v az ls τ))
 unfolding merge
 merge_limits es v az ls τ hv ha hl =
     let σ = joins es (up_from 1 v) in
@@ -168,6 +189,9 @@ merge_limits es v az ls τ hv ha hl =
 module _ (c : Clause) (h : Counted c) where
   pub few_atoms : length (clause_of c).atoms ≤ most_atoms
   few_atoms = omega (arith, h.few_atoms, length-take c.atomcount c.atoms)
+
+  pub few_literals : length (clause_of c).literals ≤ most_literals
+  few_literals = omega (arith, h.few_literals, length-take c.literalcount c.literals)
 
   pub few_others : (i : ℕ) → length (without i (clause_of c).literals) ≤ most_literals
   few_others i = omega (arith, h.few_literals, without_short i (clause_of c).literals, length-take c.literalcount c.literals)

@@ -2,27 +2,26 @@
 // group numbers; atoms and literals are renamed by it, an atom equal to an earlier one going; then numbers close up.
 #![tactic(auto)]
 
-ghost use Rattle.std.specs.Prelude.{◌≡◌, ◌||◌, not, ◌++◌, map, ◌≤◌, min, eqb, get_or, take};
+ghost use Rattle.std.specs.Prelude.{◌≡◌, not, ◌+◌, ◌++◌, map, ◌≤◌, length, get_or, take, Some};
+ghost use Rattle.std.specs.List.{count_by};
 ghost use Rattle.lists.specs.Lists.{any_of, without};
-ghost use Rattle.basis.specs.Limits.{most_variables, most_atoms, most_literals};
+ghost use Rattle.lists.specs.Arrays.{held, held_in};
+ghost use Rattle.basis.specs.Atoms.{no_atom};
 ghost use Rattle.calculus.specs.Clauses.{no_literal, same_atom, same_literal, rename_atom, rename_literal, under};
 ghost use Rattle.calculus.specs.Clauses as calculus;
-ghost use Rattle.calculus.specs.Merging.{joins, distinct, apart, own_pairs, reason_literals, own_index, reason, resolvent, factored};
+ghost use Rattle.calculus.specs.Merging.{joins, own_pairs, reason_literals, reason, resolvent, factored};
 ghost use Rattle.clauses.specs.Records.{clause_of, instanced_of, Counted};
-ghost use Rattle.joining.specs.Scratch.{both_atoms, atoms_in, literals_in, names_in, held_atoms, held_literals, held_names, through};
+ghost use Rattle.joining.specs.Scratch.{both_variables, both_atoms, both_literals, through};
 ghost use Rattle.joining.specs.Fitted.{fitted};
 ghost use Rattle.merging.specs.Added.{add_each};
 ghost use Rattle.merging.specs.Results.{packed_reason, no_reason, resolved, factorized, reason_of};
 
-use basis::{Atom, Literal, MOST_VARIABLES};
-use clauses::{
-    Clause, Instanced, atoms_of, counted, ground, literals_of, no_instanced, no_literal, same_atom,
-    same_literal,
-};
+use basis::{Atom, Literal};
+use clauses::{Clause, Instanced, counted, ground, no_atom, no_instanced, no_literal};
 use joining::{
-    Atoms, BOTH_VARIABLES, Literals, Merged, Names, atom_by, close_up, count_atoms,
-    joined_arguments, literal_by, no_atoms, no_literals, no_names, start, too_large,
+    Atoms, Literals, Names, Table, atom_by, close_up, joined_arguments, literal_by, start,
 };
+use lists::Held;
 
 // A reason, with its own literal's place, from 0
 #[derive(Clone, Copy)]
@@ -31,347 +30,211 @@ pub struct Reason {
     pub own: usize,
 }
 
-// ---- atoms and literals renamed by a table
+// ---- lists that grow
 
-fn has_atom(l: Atoms, b: Atom) -> bool
-    requires { l.n ≤ both_atoms }
-    ensures { result ≡ any_of (λ a. same_atom a b) (atoms_in l) }
+fn has_atom(atoms: &[Atom], b: Atom) -> bool
+    ensures { result ≡ any_of (λ a. same_atom a b) atoms.now }
 {
-    let n = count_atoms(l);
-    let mut j: usize = 0;
-    while j < n {
-        let a = l.at[j];
-        if same_atom(a, b) {
-            return true;
-        }
-        j += 1;
-    }
-    false
+    atoms.contains(&b)
 }
 
-// The atoms of c by the table, its variables following v others, each put after those of l where it is new
-fn append_atoms(l: Atoms, c: Clause, v: u8, t: [u8; BOTH_VARIABLES]) -> Atoms
-    requires { (l ≡ held_atoms (atoms_in l)) × (l.n ≤ most_atoms) }
-    ensures { result ≡ held_atoms (add_each (atoms_in l) (map (rename_atom (through t v)) (clause_of c).atoms)) }
+// Atoms by the table, their variables following v others, each put after those held where it is new
+fn append_atoms(out: &mut Atoms, atoms: &[Atom], v: u8, t: &Table)
+    requires { (out.old ≡ held both_atoms no_atom (held_in out.old)) × (out.old.n + length atoms.now ≤ both_atoms) }
+    ensures { out.new ≡ held both_atoms no_atom (add_each (held_in out.old) (map (rename_atom (through t.now v)) atoms.now)) }
 {
-    let n = atoms_of(c);
-    let mut out = l;
-    let mut j: usize = 0;
-    while j < n {
-        let a = c.atoms[j];
-        let b = atom_by(t, v, a);
-        let old = has_atom(out, b);
+    for a in atoms {
+        let b = atom_by(t, v, *a);
+        let old = has_atom(out.as_slice(), b);
         if !old {
-            let m = out.n;
-            out.at[m] = b;
-            out.n = m + 1;
+            out.push(b);
         }
-        j += 1;
     }
-    out
 }
 
-// The literals of c but the one at i, by the table, its variables following v others, after those of l
-fn append_literals(l: Literals, c: Clause, i: usize, v: u8, t: [u8; BOTH_VARIABLES]) -> Literals
-    requires { (l ≡ held_literals (literals_in l)) × (l.n ≤ most_literals) }
-    ensures { result ≡ held_literals (literals_in l ++ map (rename_literal (through t v)) (without i (clause_of c).literals)) }
+// Literals but the one at i, by the table, their variables following v others, after those held
+fn append_literals(out: &mut Literals, literals: &[Literal], i: usize, v: u8, t: &Table)
+    requires { (out.old ≡ held both_literals no_literal (held_in out.old)) × (out.old.n + length literals.now ≤ both_literals) }
+    ensures { out.new ≡ held both_literals no_literal (held_in out.old ++ map (rename_literal (through t.now v)) (without i literals.now)) }
 {
-    let n = literals_of(c);
-    let mut out = l;
-    let mut j: usize = 0;
-    while j < n {
-        let a = c.literals[j];
-        let b = literal_by(t, v, a);
+    for (j, l) in literals.iter().enumerate() {
+        let b = literal_by(t, v, *l);
         if j != i {
-            let m = out.n;
-            out.at[m] = b;
-            out.n = m + 1;
+            out.push(b);
         }
-        j += 1;
     }
-    out
 }
 
-// The first u constants of an instance after those of l
-fn append_names(l: Names, a: [u8; MOST_VARIABLES], u: u8) -> Names
-    requires { (l ≡ held_names (names_in l)) × (l.n ≤ most_variables) × (u ≤ most_variables) }
-    ensures { result ≡ held_names (names_in l ++ take u a) }
+// Constants after those held
+fn append_constants(out: &mut Names, constants: &[u8])
+    requires { (out.old ≡ held both_variables 0 (held_in out.old)) × (out.old.n + length constants.now ≤ both_variables) }
+    ensures { out.new ≡ held both_variables 0 (held_in out.old ++ constants.now) }
 {
-    let n = u as usize;
-    let mut out = l;
-    let mut j: usize = 0;
-    while j < n {
-        let b = a[j];
-        let m = out.n;
-        out.at[m] = b;
-        out.n = m + 1;
-        j += 1;
+    for a in constants {
+        out.push(*a);
     }
-    out
 }
 
 // ---- the clauses that are merged
 
 // The literal of c at j, from 0; the blank one past the last
-fn literal_at(c: Clause, j: usize) -> Literal
-    ensures { result ≡ get_or (clause_of c).literals j no_literal }
+fn literal_at(c: &Clause, j: usize) -> Literal
+    ensures { result ≡ get_or (clause_of c.now).literals j no_literal }
 {
-    let n = literals_of(c);
-    if j < n {
-        let l = c.literals[j];
-        return l;
-    }
-    no_literal()
+    c.literals().get(j).copied().unwrap_or(no_literal())
 }
 
-fn first_atoms(c: Clause, t: [u8; BOTH_VARIABLES]) -> Atoms
-    ensures { result ≡ held_atoms (distinct (map (rename_atom (under t)) (clause_of c).atoms)) }
+fn resolve_counted(n: &Instanced, j: usize, r: &Instanced, i: usize) -> Option<Instanced>
+    requires { Counted n.now.clause × Counted r.now.clause }
+    ensures { result ≡ fitted (resolvent (instanced_of n.now) j (instanced_of r.now) i) }
 {
-    append_atoms(no_atoms(), c, 0, t)
-}
-
-fn first_literals(c: Clause, i: usize, t: [u8; BOTH_VARIABLES]) -> Literals
-    ensures { result ≡ held_literals (map (rename_literal (under t)) (without i (clause_of c).literals)) }
-{
-    append_literals(no_literals(), c, i, 0, t)
-}
-
-fn first_names(a: [u8; MOST_VARIABLES], u: u8) -> Names
-    requires { u ≤ most_variables }
-    ensures { result ≡ held_names (take u a) }
-{
-    append_names(no_names(), a, u)
-}
-
-// The atoms of both clauses, the second's variables following the first's v
-fn both_atoms(c: Clause, d: Clause, v: u8, t: [u8; BOTH_VARIABLES]) -> Atoms
-    requires { c.atomcount ≤ most_atoms }
-    ensures { result ≡ held_atoms (distinct (map (rename_atom (under t)) ((clause_of c).atoms ++ map (rename_atom (apart v)) (clause_of d).atoms))) }
-{
-    append_atoms(first_atoms(c, t), d, v, t)
-}
-
-// The literals of both clauses but the first's at j and the second's at i
-fn both_literals(
-    c: Clause,
-    j: usize,
-    d: Clause,
-    i: usize,
-    v: u8,
-    t: [u8; BOTH_VARIABLES],
-) -> Literals
-    requires { c.literalcount ≤ most_literals }
-    ensures { result ≡ held_literals (map (rename_literal (under t)) (without j (clause_of c).literals ++ map (rename_literal (apart v)) (without i (clause_of d).literals))) }
-{
-    append_literals(first_literals(c, j, t), d, i, v, t)
-}
-
-// The constants of both instances
-fn both_names(a: [u8; MOST_VARIABLES], v: u8, b: [u8; MOST_VARIABLES], u: u8) -> Names
-    requires { (v ≤ most_variables) × (u ≤ most_variables) }
-    ensures { result ≡ held_names (take v a ++ take u b) }
-{
-    append_names(first_names(a, v), b, u)
-}
-
-fn resolve_counted(n: Instanced, j: usize, r: Instanced, i: usize) -> Merged
-    requires { Counted n.clause × Counted r.clause }
-    ensures { result ≡ fitted (resolvent (instanced_of n) j (instanced_of r) i) }
-{
-    let nc = n.clause;
-    let rc = r.clause;
-    let ni = n.instance;
-    let ri = r.instance;
-    let v = nc.variables;
-    let u = rc.variables;
-    let w = v as usize + u as usize;
-    let l = literal_at(nc, j);
-    let k = literal_at(rc, i);
+    let v = n.clause.variables;
+    let w = usize::from(v) + usize::from(r.clause.variables);
+    let l = literal_at(&n.clause, j);
+    let k = literal_at(&r.clause, i);
     let t = joined_arguments(start(w), l, v, k);
-    let az = both_atoms(nc, rc, v, t);
-    let ls = both_literals(nc, j, rc, i, v, t);
-    let names = both_names(ni, v, ri, u);
-    let tau = names.at;
-    close_up(w, az, ls, tau)
+    let mut atoms = Held::new(no_atom());
+    append_atoms(&mut atoms, n.clause.atoms(), 0, &t);
+    append_atoms(&mut atoms, r.clause.atoms(), v, &t);
+    let mut literals = Held::new(no_literal());
+    append_literals(&mut literals, n.clause.literals(), j, 0, &t);
+    append_literals(&mut literals, r.clause.literals(), i, v, &t);
+    let mut constants = Held::new(0);
+    append_constants(&mut constants, n.constants());
+    append_constants(&mut constants, r.constants());
+    close_up(
+        w,
+        atoms.as_slice(),
+        literals.as_slice(),
+        constants.as_slice(),
+    )
 }
 
 // "The reason's variables are renamed apart, then merged argument by argument. New conflict: the old literals without L', then the reason's
 // without its own; old atoms, then the reason's." L' is the literal at j of the conflict n, the reason's own is at i of r.
-pub fn resolve(n: Instanced, j: usize, r: Instanced, i: usize) -> Merged
-    ensures { result ≡ resolved n j r i }
+pub fn resolve(n: &Instanced, j: usize, r: &Instanced, i: usize) -> Option<Instanced>
+    ensures { result ≡ resolved n.now j r.now i }
 {
-    let nc = n.clause;
-    let rc = r.clause;
-    if !counted(nc) {
-        return too_large();
-    }
-    if !counted(rc) {
-        return too_large();
+    if !counted(n.clause) || !counted(r.clause) {
+        return None;
     }
     resolve_counted(n, j, r, i)
 }
 
-fn factor_counted(n: Instanced, lo: usize, hi: usize) -> Merged
-    requires { Counted n.clause × (lo ≤ hi) }
-    ensures { result ≡ fitted (factored (instanced_of n) lo hi) }
+fn factor_counted(n: &Instanced, lo: usize, hi: usize) -> Option<Instanced>
+    requires { Counted n.now.clause × (lo ≤ hi) }
+    ensures { result ≡ fitted (factored (instanced_of n.now) lo hi) }
 {
-    let nc = n.clause;
-    let ni = n.instance;
-    let v = nc.variables;
-    let w = v as usize;
-    let l = literal_at(nc, lo);
-    let k = literal_at(nc, hi);
-    let t = joined_arguments(start(w), l, 0, k);
-    let az = first_atoms(nc, t);
-    let ls = first_literals(nc, hi, t);
-    let names = first_names(ni, v);
-    let tau = names.at;
-    close_up(w, az, ls, tau)
+    let v = usize::from(n.clause.variables);
+    let l = literal_at(&n.clause, lo);
+    let k = literal_at(&n.clause, hi);
+    let t = joined_arguments(start(v), l, 0, k);
+    let mut atoms = Held::new(no_atom());
+    append_atoms(&mut atoms, n.clause.atoms(), 0, &t);
+    let mut literals = Held::new(no_literal());
+    append_literals(&mut literals, n.clause.literals(), hi, 0, &t);
+    close_up(v, atoms.as_slice(), literals.as_slice(), n.constants())
 }
 
 // "Their variables are merged; the one with the larger number goes." The two literals of the conflict n are at i and j.
-pub fn factorize(n: Instanced, i: usize, j: usize) -> Merged
-    ensures { result ≡ factorized n i j }
+pub fn factorize(n: &Instanced, i: usize, j: usize) -> Option<Instanced>
+    ensures { result ≡ factorized n.now i j }
 {
-    let nc = n.clause;
-    if !counted(nc) {
-        return too_large();
+    if !counted(n.clause) {
+        return None;
     }
-    if j < i {
-        return factor_counted(n, j, i);
-    }
-    factor_counted(n, i, j)
+    factor_counted(n, i.min(j), i.max(j))
 }
 
 // ---- the literals of one instance
 
 // Whether m's instance is g
-fn is_own(m: Literal, tau: [u8; MOST_VARIABLES], n: u8, g: Literal) -> bool
-    ensures { result ≡ same_literal (calculus.ground (take n tau) m) g }
+fn is_own(n: &Instanced, m: Literal, g: Literal) -> bool
+    ensures { result ≡ same_literal (calculus.ground (instanced_of n.now).instance m) g }
 {
-    let h = ground(m, tau, n);
-    same_literal(h, g)
+    ground(m, n.constants()) == g
 }
 
 // The literal l joined with every literal of the instance g
-fn joined_own(
-    c: Clause,
-    tau: [u8; MOST_VARIABLES],
-    l: Literal,
-    g: Literal,
-    t: [u8; BOTH_VARIABLES],
-) -> [u8; BOTH_VARIABLES]
-    ensures { result ≡ joins (own_pairs (take c.variables tau) g l (clause_of c).literals) t }
+fn joined_own(n: &Instanced, l: Literal, g: Literal, mut t: Table) -> Table
+    ensures { result ≡ joins (own_pairs (instanced_of n.now).instance g l (clause_of n.now.clause).literals) t }
 {
-    let n = literals_of(c);
-    let v = c.variables;
-    let mut out = t;
-    let mut j: usize = 0;
-    while j < n {
-        let m = c.literals[j];
-        if is_own(m, tau, v, g) {
-            let next = joined_arguments(out, l, 0, m);
-            out = next;
+    let literals = n.clause.literals();
+    for m in literals {
+        if is_own(n, *m, g) {
+            // By a name of its own: the prover takes no call's result straight into an array.
+            let next = joined_arguments(t, l, 0, *m);
+            t = next;
         }
-        j += 1;
     }
-    out
+    t
 }
 
 // The literals of another instance, and that at i, by the table
-fn reason_literals(
-    c: Clause,
-    tau: [u8; MOST_VARIABLES],
-    g: Literal,
-    i: usize,
-    t: [u8; BOTH_VARIABLES],
-) -> Literals
-    ensures { result ≡ held_literals (map (rename_literal (under t)) (reason_literals (take c.variables tau) g i (clause_of c).literals)) }
+fn reason_literals(n: &Instanced, g: Literal, i: usize, t: &Table) -> Literals
+    requires { Counted n.now.clause }
+    ensures { result ≡ held both_literals no_literal (map (rename_literal (under t.now)) (reason_literals (instanced_of n.now).instance g i (clause_of n.now.clause).literals)) }
 {
-    let n = literals_of(c);
-    let v = c.variables;
-    let mut out = no_literals();
-    let mut j: usize = 0;
-    while j < n {
-        let m = c.literals[j];
-        let b = literal_by(t, 0, m);
-        let own = is_own(m, tau, v, g);
-        if stays(own, j, i) {
-            let k = out.n;
-            out.at[k] = b;
-            out.n = k + 1;
+    let literals = n.clause.literals();
+    let mut out = Held::new(no_literal());
+    for (j, m) in literals.iter().enumerate() {
+        let b = literal_by(t, 0, *m);
+        let own = is_own(n, *m, g);
+        if j == i || !own {
+            out.push(b);
         }
-        j += 1;
     }
     out
 }
 
-fn stays(own: bool, j: usize, i: usize) -> bool
-    ensures { result ≡ (eqb j i || not own) }
-{
-    if j == i {
-        return true;
-    }
-    !own
-}
-
-fn least(a: usize, b: usize) -> usize
-    ensures { result ≡ min a b }
-{
-    if a < b { a } else { b }
-}
-
 // Where the literal at i then stands
-fn own_index(c: Clause, tau: [u8; MOST_VARIABLES], g: Literal, i: usize) -> usize
-    ensures { result ≡ own_index (take c.variables tau) g i (clause_of c).literals }
+fn own_index(n: &Instanced, g: Literal, i: usize) -> usize
+    ensures { result ≡ count_by (λ m. not (same_literal (calculus.ground (instanced_of n.now).instance m) g)) (take i (clause_of n.now.clause).literals) }
 {
-    let n = literals_of(c);
-    let v = c.variables;
-    let end = least(i, n);
-    let mut k: usize = 0;
-    let mut j: usize = 0;
-    while j < end {
-        let m = c.literals[j];
-        if !is_own(m, tau, v, g) {
-            k += 1;
-        }
-        j += 1;
-    }
-    k
+    n.clause
+        .literals()
+        .iter()
+        .take(i)
+        .filter(|m| !is_own(n, **m, g))
+        .count()
 }
 
-fn reason_counted(c: Clause, i: usize, tau: [u8; MOST_VARIABLES]) -> Reason
-    requires { Counted c }
-    ensures { result ≡ packed_reason (reason (clause_of c) i (take c.variables tau)) }
+fn reason_counted(n: &Instanced, i: usize) -> Reason
+    requires { Counted n.now.clause }
+    ensures { result ≡ packed_reason (reason (clause_of n.now.clause) i (instanced_of n.now).instance) }
 {
-    let v = c.variables;
-    let w = v as usize;
-    let l = literal_at(c, i);
-    let g = ground(l, tau, v);
-    let t = joined_own(c, tau, l, g, start(w));
-    let az = first_atoms(c, t);
-    let ls = reason_literals(c, tau, g, i, t);
-    let own = own_index(c, tau, g, i);
-    let names = first_names(tau, v);
-    let at = names.at;
-    let m = close_up(w, az, ls, at);
-    let of = m.of;
-    Reason { of: of, own: own }
+    let v = usize::from(n.clause.variables);
+    let l = literal_at(&n.clause, i);
+    let constants = n.constants();
+    let g = ground(l, constants);
+    let t = joined_own(n, l, g, start(v));
+    let mut atoms = Held::new(no_atom());
+    append_atoms(&mut atoms, n.clause.atoms(), 0, &t);
+    let literals = reason_literals(n, g, i, &t);
+    let own = own_index(n, g, i);
+    // It is there: a reason is never larger than its clause.
+    let merged = close_up(v, atoms.as_slice(), literals.as_slice(), constants);
+    Reason {
+        of: merged.unwrap_or(no_instanced()),
+        own,
+    }
 }
 
 fn no_reason() -> Reason
     ensures { result ≡ no_reason }
 {
-    let of = no_instanced();
-    Reason { of: of, own: 0 }
+    Reason {
+        of: no_instanced(),
+        own: 0,
+    }
 }
 
 // "Its reason is the clause after merging L with all literals of the same instance; L keeps its place, the others go." L is the literal at i.
-pub fn reason_of(c: Clause, i: usize, tau: [u8; MOST_VARIABLES]) -> Reason
-    ensures { result ≡ reason_of c i tau }
+pub fn reason_of(n: &Instanced, i: usize) -> Reason
+    ensures { result ≡ reason_of n.now.clause i n.now.instance }
 {
-    if !counted(c) {
+    if !counted(n.clause) {
         return no_reason();
     }
-    reason_counted(c, i, tau)
+    reason_counted(n, i)
 }

@@ -13,7 +13,6 @@ use Rattle.basis.specs.Atoms.{Possible}
 use Rattle.basis.specs.Numbers.{whole}
 use Rattle.basis.specs.Refusals.{accepted}
 use Rattle.basis.specs.declared.Atom.{Atom}
-use Rattle.basis.specs.declared.Witness.{Witness}
 use Rattle.lists.specs.Lists.{all_of}
 use Rattle.lists.proofs.Tests.{T→eq, and_l, and_r}
 use Rattle.bounds.proofs.Numbers.{numbers_exist, numbers_once}
@@ -29,7 +28,8 @@ use Rattle.calculus.specs.States.{Backtrack, Conflict, Decide, Factorize, Grow, 
 use Rattle.calculus.specs.Tests.{clause_exists, instance_fits, literal_exists, source_fits}
 use Rattle.constraint.proofs.Decided.{possible_decided}
 use Rattle.constraint.specs.Test.{NumbersIn}
-use Rattle.constraint.specs.Witnesses.{packed_witness}
+use Rattle.constraint.specs.Witnesses.{packed_given}
+use Rattle.std.specs.Prelude as std
 use Rattle.reaching.specs.Handing.{EveryStepHands, HandsOnce}
 use Rattle.reaching.proofs.Reached.{AllProper, FineState, brought_proper, kept_proper, named_proper, reached_fine, some_conflict}
 
@@ -108,12 +108,12 @@ nothing_asked s x e = ((λ _. subst (Possible whole s.constants) (sym e) (possib
 -- ---- the record of it
 
 -- w is the record of what the step hands on where it is accepted.
-abbrev pub HandsBy : State → Step → Witness → Type 0
-HandsBy s x w = (h : Option (List ℤ)) × HandsOn s x accepted h × (w ≡ packed_witness h)
+abbrev pub HandsBy : State → Step → std.Option (List ℤ) → Type 0
+HandsBy s x w = (h : Option (List ℤ)) × HandsOn s x accepted h × (w ≡ packed_given h)
 
 -- .. of a rule that tests the numbers behind the yes, of another none
-pub hands_shown : (s : State) (x : Step) → tests x ≡ true → (w : Witness) → w.given ≡ true → NumbersIn s.constants (question s x) w.numbers → HandsBy s x w
-hands_shown s x t w e (numbers, these, is) = (some numbers, rw t (numbers, these, refl), λ i. record { given = e i; numbers = is i })
+pub hands_shown : (s : State) (x : Step) → tests x ≡ true → (w : List ℤ) → NumbersIn s.constants (question s x) w → HandsBy s x (std.Some w)
+hands_shown s x t w (numbers, these, is) = (some numbers, rw t (numbers, these, refl), ap (λ (l : List ℤ). std.Some l) is)
 
-pub hands_none : (s : State) (x : Step) → tests x ≡ false → {w : Witness} → w ≡ packed_witness none → HandsBy s x w
+pub hands_none : (s : State) (x : Step) → tests x ≡ false → {w : std.Option (List ℤ)} → w ≡ std.None → HandsBy s x w
 hands_none s x t e = (none, rw t refl, e)

@@ -13,13 +13,14 @@ ghost use Rattle.state.specs.States.{Made};
 
 use asking::{Source, Step};
 use basis::{
-    Atom, Literal, MOST_ATOMS, MOST_BROUGHT, MOST_INPUT, MOST_LITERALS, MOST_PREDICATES,
-    MOST_VARIABLES, Version,
+    Atom, Literal, MOST_ATOMS, MOST_BROUGHT, MOST_LITERALS, MOST_PREDICATES, MOST_VARIABLES,
+    Version,
 };
-use clauses::{Clause, Instanced, no_atom, no_literal};
+use clauses::{Clause, Instanced, no_atom, no_instanced, no_literal};
 use inspection::{MOST_STATE, put_conflict, put_state};
 use state::{State, admit};
-use std::io::Read;
+use std::array;
+use streams::read_full;
 
 // Cases are read no further.
 const MOST_READ: usize = 65536;
@@ -28,7 +29,6 @@ const MOST_READ: usize = 65536;
 
 const NAME_LENGTH: usize = 24;
 
-// What is done: 1 is the reason of a literal, 4 a resolvent, 5 a clause factored, any other number a run
 const KIND: usize = 25;
 
 // The literals that a merging names
@@ -55,6 +55,9 @@ const STEPS: usize = 204;
 
 // Ten steps at most
 const CASE: usize = 724;
+
+// The room for as many predicates and clauses as a case can count
+const MOST_COUNTED: usize = u8::MAX as usize;
 
 // ---- places in a clause, and how many atoms and literals stand there
 
@@ -83,26 +86,26 @@ const ONE_LITERAL: usize = 5;
 
 const STEP: usize = 52;
 
+// ---- what is done; any other number is a run
+
+const REASON: u8 = 1;
+
+const RESOLVENT: u8 = 4;
+
+const FACTORED: u8 = 5;
+
 // ---- records
 
 // The byte so far past a place, or 0 past the end
 fn byte(s: &[u8], at: usize, past: usize) -> u8 {
-    if s.len() <= at {
-        return 0;
-    }
-    if s.len() - at <= past {
-        return 0;
-    }
-    s[at + past]
+    let rest = s.get(at..).unwrap_or(&[]);
+    rest.get(past).copied().unwrap_or(0)
 }
 
 // The number c of an atom: a sign, and three bytes, the lowest first
 fn constant(sign: u8, low: u8, middle: u8, high: u8) -> i32 {
-    let size = low as u32 + 256 * (middle as u32) + 65536 * (high as u32);
-    if sign == 1 {
-        return -(size as i32);
-    }
-    size as i32
+    let size = i32::from(low) + 256 * i32::from(middle) + 65536 * i32::from(high);
+    if sign == 1 { -size } else { size }
 }
 
 fn atom_at(s: &[u8], at: usize) -> Atom {
@@ -115,7 +118,7 @@ fn atom_at(s: &[u8], at: usize) -> Atom {
     Atom {
         p: byte(s, at, 0),
         q: byte(s, at, 1),
-        c: c,
+        c,
     }
 }
 
@@ -133,35 +136,28 @@ fn literal_at(s: &[u8], at: usize) -> Literal {
 fn clause_at(s: &[u8], at: usize) -> Clause
     requires { at < 1000 }
 {
-    let a = no_atom();
-    let l = no_literal();
-    let mut atoms = [a; MOST_ATOMS];
-    let mut literals = [l; MOST_LITERALS];
+    let mut atoms = [no_atom(); MOST_ATOMS];
+    let mut literals = [no_literal(); MOST_LITERALS];
     for k in 0..SLOTS {
-        let a = atom_at(s, at + ATOMS + ATOM * k);
-        let l = literal_at(s, at + LITERALS + ONE_LITERAL * k);
-        atoms[k] = a;
-        literals[k] = l;
+        atoms[k] = atom_at(s, at + ATOMS + ATOM * k);
+        literals[k] = literal_at(s, at + LITERALS + ONE_LITERAL * k);
     }
     Clause {
         variables: byte(s, at, 0),
         atomcount: byte(s, at, 1),
         literalcount: byte(s, at, 2),
-        atoms: atoms,
-        literals: literals,
+        atoms,
+        literals,
     }
 }
 
 fn instance_at(s: &[u8], at: usize) -> [u8; MOST_VARIABLES] {
-    let mut list = [0u8; MOST_VARIABLES];
-    for k in 0..MOST_VARIABLES {
-        list[k] = byte(s, at, k);
-    }
-    list
+    array::from_fn(|k| byte(s, at, k))
 }
 
-fn arities_of(s: &[u8]) -> [u8; MOST_PREDICATES] {
-    let mut list = [0u8; MOST_PREDICATES];
+// The arities that a case has, and 0 for predicates past them
+fn arities_of(s: &[u8]) -> [u8; MOST_COUNTED] {
+    let mut list = [0; MOST_COUNTED];
     for k in 0..MOST_PREDICATES {
         list[k] = byte(s, ARITIES, k);
     }
@@ -171,11 +167,9 @@ fn arities_of(s: &[u8]) -> [u8; MOST_PREDICATES] {
 fn instanced_at(s: &[u8], at: usize) -> Instanced
     requires { at < 1000 }
 {
-    let clause = clause_at(s, at);
-    let instance = instance_at(s, at + INSTANCE);
     Instanced {
-        clause: clause,
-        instance: instance,
+        clause: clause_at(s, at),
+        instance: instance_at(s, at + INSTANCE),
     }
 }
 
@@ -196,10 +190,8 @@ fn step_at(s: &[u8], k: usize) -> Step
     requires { k < 256 }
 {
     let at = STEPS + STEP * k;
-    let one = source_at(s, at + SOURCE);
-    let other = source_at(s, at + OTHER_SOURCE);
-    let mut atoms = [other; MOST_BROUGHT];
-    atoms[0] = one;
+    let mut atoms = [source_at(s, at + OTHER_SOURCE); MOST_BROUGHT];
+    atoms[0] = source_at(s, at + SOURCE);
     Step {
         rule: byte(s, at, 0),
         clause: byte(s, at, 1),
@@ -210,28 +202,23 @@ fn step_at(s: &[u8], k: usize) -> Step
         count: byte(s, at, 6),
         brought: byte(s, at, BROUGHT),
         instance: instance_at(s, at + 7),
-        atoms: atoms,
+        atoms,
     }
 }
 
 // One clause at its place, and another in every other place
-fn table_of(s: &[u8]) -> [Clause; MOST_INPUT] {
-    let k = byte(s, PLACE, 0) as usize;
+fn table_of(s: &[u8]) -> [Clause; MOST_COUNTED] {
+    let k = usize::from(byte(s, PLACE, 0));
     let one = clause_at(s, FIRST);
     let other = clause_at(s, SECOND);
-    let mut table = [other; MOST_INPUT];
-    if k < MOST_INPUT {
+    let mut table = [other; MOST_COUNTED];
+    if k < MOST_COUNTED {
         table[k] = one;
     }
     table
 }
 
 // ---- writing
-
-// What can't be written is not told: it is missing where the output is compared.
-fn write(rt: HostRuntime, s: &[u8]) {
-    let _ = rt.write_all(s);
-}
 
 // Room for the text of any state
 fn room() -> [u8; MOST_STATE]
@@ -243,18 +230,21 @@ fn room() -> [u8; MOST_STATE]
 fn print_state(rt: HostRuntime, state: State)
     requires { Made state }
 {
-    let run = state.run();
-    let table = state.table();
     let mut out = room();
-    let end = put_state(&mut out, 0, run, table);
-    write(rt, &out[..end]);
+    let end = put_state(&mut out, 0, state.run(), state.table());
+    let _ = rt.write_all(&out[..end]);
 }
 
 // A clause with its instance, as a state's conflict is printed
-fn print_merged(rt: HostRuntime, fits: bool, n: Instanced) {
+fn print_merged(rt: HostRuntime, merged: Option<Instanced>) {
     let mut out = room();
-    let end = put_conflict(&mut out, 0, fits, n);
-    write(rt, &out[..end]);
+    let end = put_conflict(
+        &mut out,
+        0,
+        merged.is_some(),
+        merged.unwrap_or(no_instanced()),
+    );
+    let _ = rt.write_all(&out[..end]);
 }
 
 // "number place" and the end of the line
@@ -264,9 +254,9 @@ fn print_answer(rt: HostRuntime, number: u8, place: u8) {
 
 // The name and a space
 fn print_name(rt: HostRuntime, s: &[u8]) {
-    let n = (byte(s, NAME_LENGTH, 0) as usize).min(s.len());
-    write(rt, &s[..n]);
-    write(rt, b" ");
+    let n = usize::from(byte(s, NAME_LENGTH, 0)).min(s.len());
+    let _ = rt.write_all(&s[..n]);
+    let _ = rt.write_all(b" ");
 }
 
 // ---- merging; literals are numbered from 0
@@ -274,12 +264,9 @@ fn print_name(rt: HostRuntime, s: &[u8]) {
 // The reason of a literal, and where that literal then stands
 fn reason(rt: HostRuntime, s: &[u8]) {
     let i = byte(s, LITERAL, 0) as usize;
-    let c = clause_at(s, FIRST);
-    let tau = instance_at(s, FIRST + INSTANCE);
-    let r = merging::reason_of(c, i, tau);
-    let of = r.of;
-    print_merged(rt, true, of);
-    let own = r.own;
+    let reason = merging::reason_of(&instanced_at(s, FIRST), i);
+    print_merged(rt, Some(reason.of));
+    let own = reason.own;
     let _ = print!(rt; " {own}");
 }
 
@@ -288,27 +275,20 @@ fn resolve(rt: HostRuntime, s: &[u8]) {
     let i = byte(s, LITERAL, 1) as usize;
     let n = instanced_at(s, FIRST);
     let r = instanced_at(s, SECOND);
-    let m = merging::resolve(n, j, r, i);
-    let of = m.of;
-    print_merged(rt, m.fits, of);
+    print_merged(rt, merging::resolve(&n, j, &r, i));
 }
 
 fn factorize(rt: HostRuntime, s: &[u8]) {
     let i = byte(s, LITERAL, 0) as usize;
     let j = byte(s, LITERAL, 1) as usize;
     let n = instanced_at(s, FIRST);
-    let m = merging::factorize(n, i, j);
-    let of = m.of;
-    print_merged(rt, m.fits, of);
+    print_merged(rt, merging::factorize(&n, i, j));
 }
 
 // ---- the front door
 
 fn version_of(n: u8) -> Version {
-    if n == 2 {
-        return Version::Two;
-    }
-    Version::One
+    if n == 2 { Version::Two } else { Version::One }
 }
 
 // What admission makes of the clauses
@@ -316,12 +296,12 @@ fn admitted(rt: HostRuntime, s: &[u8]) -> State
     ensures { Made result }
 {
     let constants = byte(s, COUNTS, 0);
-    let predicates = byte(s, COUNTS, 1);
-    let count = byte(s, COUNTS, 2);
-    let list = arities_of(s);
+    let predicates = usize::from(byte(s, COUNTS, 1));
+    let count = usize::from(byte(s, COUNTS, 2));
+    let arities = arities_of(s);
     let table = table_of(s);
     let version = version_of(byte(s, VERSION, 0));
-    let opened = admit(version, constants, predicates, list, count, table);
+    let opened = admit(version, constants, &arities[..predicates], &table[..count]);
     print_answer(rt, opened.number, opened.place);
     opened.state
 }
@@ -331,26 +311,22 @@ fn tried(rt: HostRuntime, state: State, x: Step) -> State
     requires { Made state }
     ensures { Made result }
 {
-    let a = state.step(x);
-    let next = a.state;
-    write(rt, b"step ");
-    print_answer(rt, a.number, a.place);
-    print_state(rt, next);
-    next
+    let answer = state.step(x);
+    let _ = rt.write_all(b"step ");
+    print_answer(rt, answer.number, answer.place);
+    print_state(rt, answer.state);
+    answer.state
 }
 
 // The state after each step; without steps that of admission
 fn run(rt: HostRuntime, s: &[u8]) {
-    let n = byte(s, STEP_COUNT, 0) as usize;
+    let n = usize::from(byte(s, STEP_COUNT, 0));
     let mut state = admitted(rt, s);
     if n == 0 {
         print_state(rt, state);
-        return;
     }
     for k in 0..n {
-        let x = step_at(s, k);
-        let next = tried(rt, state, x);
-        state = next;
+        state = tried(rt, state, step_at(s, k));
     }
 }
 
@@ -358,45 +334,19 @@ fn run(rt: HostRuntime, s: &[u8]) {
 
 fn print_case(rt: HostRuntime, s: &[u8]) {
     print_name(rt, s);
-    let kind = byte(s, KIND, 0);
-    match kind {
-        1 => reason(rt, s),
-        4 => resolve(rt, s),
-        5 => factorize(rt, s),
-        _ => {
-            run(rt, s);
-            return;
-        }
+    match byte(s, KIND, 0) {
+        REASON => reason(rt, s),
+        RESOLVENT => resolve(rt, s),
+        FACTORED => factorize(rt, s),
+        _ => return run(rt, s),
     }
-    write(rt, b"\n");
-}
-
-fn print_cases(rt: HostRuntime, s: &[u8]) {
-    let mut at: usize = 0;
-    while CASE <= s.len() - at {
-        let next = at + CASE;
-        print_case(rt, &s[at..next]);
-        at = next;
-    }
-}
-
-// As much as comes and the buffer has room for; a read that fails ends it.
-fn read_full(reader: &mut impl Read, buffer: &mut [u8]) -> usize
-    ensures { result ≤ length buffer.new }
-{
-    let mut at: usize = 0;
-    while at < buffer.len() {
-        match reader.read(&mut buffer[at..]) {
-            Ok(0) => break,
-            Ok(more) => at += more,
-            Err(_) => break,
-        }
-    }
-    at
+    let _ = rt.write_all(b"\n");
 }
 
 fn main(rt: HostRuntime) {
     let mut cases = [0u8; MOST_READ];
-    let n = read_full(&mut rt.stdin(), &mut cases);
-    print_cases(rt, &cases[..n]);
+    let n = read_full(&mut rt.stdin(), &mut cases).unwrap_or_else(|n| n);
+    for case in cases[..n].chunks_exact(CASE) {
+        print_case(rt, case);
+    }
 }

@@ -1,16 +1,20 @@
 -- What is asked in rising order: the first number that is given, and that all is passed where it is 0.
+use Rattle.std.proofs.Common.{Option, Result, Err, None, Some, true≢false}
+use Rattle.std.specs.Option.{is_none, unwrap_or}
+use Rattle.basis.proofs.Numbered.{in_table}
+use Rattle.basis.specs.Refusals.{accepted, number_of}
+use Rattle.basis.specs.declared.Refusal.{Refusal}
+use Rattle.asking.specs.Trying.{answer_number}
 use mathlib.Core.Path.{◌∙◌, ◌≡◌, ap, refl, subst, sym}
 use mathlib.Core.Bool.{Bool, ◌&&◌, cond, false, not, true}
-use Prim.Native.Nat.{ℕ, ◌<◌, ◌≤◌}
-use native.Mathlib.Omega.{arith}
+use Prim.Native.Nat.{ℕ}
 use lib.Dec.{T, eqb}
-use borrow.Author.Tests.{eqb-false, eqb-true}
+use borrow.Author.Tests.{eqb-true}
 use Rattle.rules.specs.Answers.{Told}
 use Rattle.basis.specs.Refusals.{not_false}
 use Rattle.lists.proofs.Tests.{F→eq}
-use Rattle.rules.specs.Records.{refused_at, refused_by}
+use Rattle.rules.specs.Records.{refused_at, refused_by, outcome}
 use Rattle.rules.specs.declared.Run.{Run}
-use Rattle.rules.specs.declared.Stepped.{Stepped}
 use Rattle.calculus.specs.States.{State, Step}
 
 -- It is not so, and its number is given, or it is so, and the rest tells.
@@ -40,25 +44,30 @@ other_told {s} {x} {r} {m = m} p e h t = subst (At s x r p) (sym e) (subst (λ (
 pub place_told : {s : State} {x : Step} {r : Run} {n : ℕ} (p : ℕ) → n ≡ not_false → Told s x (refused_at r p) → Told s x (cond (eqb n not_false) (refused_at r p) (refused_by r n))
 place_told {s} {x} {r} p e t = subst (At s x r p) (sym e) t
 
--- A refusal that names nothing, whatever its number
-pub no_place : {s : State} {x : Step} {r : Run} {n : ℕ} → Told s x (refused_by r n) → Told s x (cond (eqb n not_false) (refused_at r 0) (refused_by r n))
-no_place {s} {x} {r} {n} t = go (eqb n not_false) refl
+-- No number, and a number
+pub none : (p : Option ℕ) → is_none p ≡ true → p ≡ None
+none None e = refl
+none (Some n) e = cc
+
+pub some : (p : Option ℕ) → is_none p ≡ false → p ≡ Some (unwrap_or p 0)
+some None e = cc
+some (Some n) e = refl
+
+-- ---- as the code answers
+
+-- No refusal has the number 0.
+pub some_number : (q : Refusal) → ¬ (number_of q ≡ 0)
+some_number q e = true≢false (sym (ap (λ (n : ℕ). eqb n accepted) e) ∙ in_table q)
+
+-- The number of a refusal that was found
+pub found : {a : Result (Unit {0}) Refusal} {q : Refusal} {n : ℕ} → a ≡ Err q → answer_number a ≡ n → number_of q ≡ n
+found e h = sym (ap answer_number e) ∙ h
+
+-- What is refused by the first condition that does not hold, with the place of 12
+pub with_place : {s : State} {x : Step} {r : Run} (q : Refusal) (p : ℕ) → Told s x (cond (eqb (number_of q) not_false) (refused_at r p) (refused_by r (number_of q)))
+    → Told s x (outcome r (Err (record { refusal = q; place = cond (eqb (number_of q) not_false) p 0 })))
+with_place {s} {x} {r} q p t = go (eqb (number_of q) not_false) refl t
   where
-    go : (b : Bool) → eqb n not_false ≡ b → Told s x (cond (eqb n not_false) (refused_at r 0) (refused_by r n))
-    go true h = subst (λ (b : Bool). Told s x (cond b (refused_at r 0) (refused_by r n))) (sym h) (subst (λ (k : ℕ). Told s x (refused_by r k)) (eqb-true n not_false h) t)
-    go false h = subst (λ (b : Bool). Told s x (cond b (refused_at r 0) (refused_by r n))) (sym h) t
-
--- Accepted where the number is 0, and else refused
-pub either_told : {s : State} {x : Step} {a b d : Stepped} (n : ℕ) → a ≡ cond (eqb n 0) b d → (n ≡ 0 → Told s x b) → (¬ (n ≡ 0) → Told s x d) → Told s x a
-either_told {s} {x} {a} {b} {d} n e f g = go (eqb n 0) refl
-  where
-    go : (c : Bool) → eqb n 0 ≡ c → Told s x a
-    go true h = subst (Told s x) (sym (e ∙ ap (λ (c : Bool). cond c b d) h)) (f (eqb-true n 0 h))
-    go false h = subst (Told s x) (sym (e ∙ ap (λ (c : Bool). cond c b d) h)) (g (eqb-false n 0 h))
-
--- A number that is none, and one that is some
-pub none : (p : ℕ) → p ≡ 0 → p ≤ 0
-none p e = omega arith
-
-pub positive : (p : ℕ) → ¬ (p ≡ 0) → 0 < p
-positive p e = omega arith
+    go : (b : Bool) → eqb (number_of q) not_false ≡ b → Told s x (cond b (refused_at r p) (refused_by r (number_of q))) → Told s x (record { run = r; number = number_of q; place = cond b p 0; learned = None; witness = None })
+    go true e u = subst (λ (n : ℕ). Told s x (record { run = r; number = n; place = p; learned = None; witness = None })) (sym (eqb-true (number_of q) not_false e)) u
+    go false e u = u

@@ -1,4 +1,6 @@
 -- Backtrack: each answer in terms of what the code has seen.
+use Rattle.std.specs.Prelude as std
+use Rattle.std.specs.Option.{is_some}
 use mathlib.Core.Path.{◌∙◌, ◌≡◌, ap, refl, subst, sym}
 use mathlib.Core.Logic.{◌↔◌}
 use mathlib.Core.List.{List, [], ◌++◌, ◌∷◌}
@@ -6,22 +8,23 @@ use mathlib.Core.Bool.{Bool, cond, false, not, true}
 use Prim.Native.Nat.{◌+◌, ◌-◌, ◌<◌, ◌≤◌, suc, ℕ}
 use native.Mathlib.Omega.{arith}
 use lib.Dec.{T, leb, ltb}
-use lib.ListN.{length, length-append}
+use lib.ListN.{length, length-append, length-take, take}
+use lib.Seq.{take_all}
 use borrow.Author.Tests.{le-leb, le-ltb, lt-leb, lt-ltb, ltb-false, ltb-true, not-false, not-true}
 use Rattle.rules.proofs.Asking.{as_told, asked, passed}
 use Rattle.rules.proofs.Growing.{appended_stored, backtracked, cut_stored, few_new}
 use Rattle.calculus.specs.Clauses as calculus
 use Rattle.calculus.specs.Clauses.{ground_atoms, no_instanced, same_literal}
 use Rattle.basis.specs.Atoms.{Possible}
-use Rattle.basis.specs.Limits.{most_atoms, most_entries, most_learned}
+use Rattle.basis.specs.Limits.{most_atoms, most_entries, most_learned, most_variables}
 use Rattle.basis.specs.Numbers.{whole}
 use Rattle.basis.specs.Refusals.{accepted, kept_not_possible, no_room, no_such, not_above, wrong_literal, wrong_moment}
 use Rattle.basis.specs.declared.Atom.{Atom}
 use Rattle.basis.specs.declared.Literal.{Literal}
-use Rattle.basis.specs.declared.Witness.{Witness}
+use Rattle.lists.proofs.Arrays.{exactly_length}
 use Rattle.lists.specs.Lists.{any_of}
 use Rattle.rules.specs.Answers.{RunOf, Told}
-use Rattle.rules.specs.Records.{appended_at, refused_by}
+use Rattle.rules.specs.Records.{Shown, appended_at, refused_by}
 use Rattle.rules.specs.declared.Run.{Run}
 use Rattle.calculus.specs.Tests.{literal_exists}
 use Rattle.calculus.specs.Rules.{back_level, literal_instance, next, other_instances, question}
@@ -30,14 +33,14 @@ use Rattle.calculus.specs.Trails.{Trail, atoms_of, cut, foreground, level_of, pr
 use Rattle.clauses.specs.Records.{instanced_of, packed_instanced}
 use Rattle.clauses.specs.declared.Instanced.{Instanced}
 use Rattle.reaching.proofs.Reached.{kept_proper}
-use Rattle.rules.proofs.Runs.{clauses_is, conflict_says, constants_is, fine, fine_conflict, input_is, learned_is, packed_as, standing, stands_is, stored, version_is}
+use Rattle.rules.proofs.Runs.{clauses_is, conflict_is, conflict_says, constants_is, fine, fine_conflict, input_is, learned_is, packed_as, standing, stands_is, stored, version_is}
 use Rattle.rules.proofs.Testing.{decides, hands}
 use Rattle.rules.proofs.Told.{accepted_as, refused, refused_by_lem}
 use Rattle.testing.proofs.Gathering.{known_says, step_says, tested_says}
 use Rattle.testing.proofs.New.{propagated_new, pushed_length}
 use Rattle.testing.specs.Asked.{Gathers, WitnessOf, known_atoms, step_atoms, tested_atoms}
 use Rattle.testing.specs.New.{new_atoms, packed_atoms, pushed_atoms}
-use Rattle.testing.specs.declared.Atoms.{Atoms}
+use Rattle.lists.specs.declared.Held.{Held}
 use Rattle.testing.specs.declared.Tested.{Tested}
 use Rattle.trail.proofs.Stored.{cut_first, kept_few, stored_own}
 use Rattle.trail.proofs.Walks.{trail_length}
@@ -99,20 +102,20 @@ module _ {r : Run} {s : State} (R : RunOf r s) (l : ℕ) where
         kept-is = ap (λ (u : LevelsSeen). trail_of r.trail u.kept) v-is ∙ cut_first r.trail (back_level n l (trail_of r.trail r.length)) r.length
             ∙ carry (λ q t. cut (back_level n l (trail_of r.trail r.length)) (trail_of r.trail r.length) ≡ cut (back_level q l t) t) refl
 
-        module _ (h₃ : v.others < v.own) (w : Tested) (G : Gathers w (atoms_of u₁) (ground_atoms n.instance n.clause.atoms)) (b : Witness) (d : WitnessOf r.constants (tested_atoms w) b) where
+        module _ (h₃ : v.others < v.own) (w : Tested) (G : Gathers w (atoms_of u₁) (ground_atoms n.instance n.clause.atoms)) (b : Shown) (d : WitnessOf r.constants (tested_atoms w) b) where
           above : ltb (back_level N l s.trail) (level_of (literal_instance N l) s.trail) ≡ true
           above = lt-ltb (back_level N l s.trail) (level_of (literal_instance N l) s.trail) (omega (arith, back_is, level-of))
 
           together : tested_atoms w ≡ question s (Backtrack l)
           together = tested_says G ∙ (λ i. atoms_of (kept-is i) ++ ground_atoms (conflict_says R e i).instance (conflict_says R e i).clause.atoms)
 
-          says : T b.given ↔ Possible whole s.constants (question s (Backtrack l))
+          says : T (is_some b) ↔ Possible whole s.constants (question s (Backtrack l))
           says = decides R (Backtrack l) d together (kept_proper (fine R) (back_level N l s.trail) N (fine_conflict R e))
 
-          backtrack-impossible : b.given ≡ false → Told s (Backtrack l) (refused_by r kept_not_possible)
-          backtrack-impossible h = refused_by_lem R (Backtrack l) b.given says kept_not_possible tt tt (simp (standing R e, exists h₁, again-is h₂, above, h))
+          backtrack-impossible : is_some b ≡ false → Told s (Backtrack l) (refused_by r kept_not_possible)
+          backtrack-impossible h = refused_by_lem R (Backtrack l) (is_some b) says kept_not_possible tt tt (simp (standing R e, exists h₁, again-is h₂, above, h))
 
-          module _ (h₄ : b.given ≡ true) (f : Atoms) (f-is : f ≡ packed_atoms (new_atoms (known_atoms w) (step_atoms w))) (g : Literal) (g-is : g ≡ literal_instance n l) where
+          module _ (h₄ : is_some b ≡ true) (f : Held Atom most_atoms) (f-is : f ≡ packed_atoms (new_atoms (known_atoms w) (step_atoms w))) (g : Literal) (g-is : g ≡ literal_instance n l) where
             abbrev new : List Atom
             new = new_atoms (known_atoms w) (step_atoms w)
 
@@ -129,34 +132,34 @@ module _ {r : Run} {s : State} (R : RunOf r s) (l : ℕ) where
                 ∙ (λ i. let q = conflict_says R e i in pushed_atoms (new_atoms (atoms_of (kept-is i)) (ground_atoms q.instance q.clause.atoms)) (foreground (literal_instance q l) (propagated (suc (length (clauses s))) l q.instance) ∷ kept-is i))
                 ∙ sym (propagated_new N.clause (l - 1) N.instance (propagated (suc (length (clauses s))) l N.instance) t₁)
 
-            grown-length : length (next s (Backtrack l)).trail ≡ v.kept + f.count + 1
-            grown-length = ap length (sym grown) ∙ pushed_length new (foreground g (propagated m l n.instance) ∷ u₁) ∙ omega (arith, ap (λ (q : Atoms). q.count) f-is, trail_length r.trail v.kept)
+            grown-length : length (next s (Backtrack l)).trail ≡ v.kept + f.n + 1
+            grown-length = ap length (sym grown) ∙ pushed_length new (foreground g (propagated m l n.instance) ∷ u₁) ∙ omega (arith, ap (λ (q : Held Atom most_atoms). q.n) f-is, trail_length r.trail v.kept)
 
-            backtrack-long : most_entries ≤ v.kept + f.count → Told s (Backtrack l) (refused_by r no_room)
-            backtrack-long h = refused_by_lem R (Backtrack l) b.given says no_room tt tt (simp (standing R e, exists h₁, again-is h₂, above, h₄, lt-leb (length (next s (Backtrack l)).trail) most_entries (omega (arith, grown-length))))
+            backtrack-long : most_entries ≤ v.kept + f.n → Told s (Backtrack l) (refused_by r no_room)
+            backtrack-long h = refused_by_lem R (Backtrack l) (is_some b) says no_room tt tt (simp (standing R e, exists h₁, again-is h₂, above, h₄, lt-leb (length (next s (Backtrack l)).trail) most_entries (omega (arith, grown-length))))
 
-            module _ (h₅ : v.kept + f.count < most_entries) where
+            module _ (h₅ : v.kept + f.n < most_entries) where
               fits : leb (length (next s (Backtrack l)).trail) most_entries ≡ true
               fits = le-leb (length (next s (Backtrack l)).trail) most_entries (omega (arith, grown-length))
 
               backtrack-no-room : most_learned ≤ r.learned → Told s (Backtrack l) (refused_by r no_room)
-              backtrack-no-room h = refused_by_lem R (Backtrack l) b.given says no_room tt tt (simp (standing R e, exists h₁, again-is h₂, above, h₄, fits, lt-leb (suc (length s.learned)) most_learned (omega (arith, learned_is R))))
+              backtrack-no-room h = refused_by_lem R (Backtrack l) (is_some b) says no_room tt tt (simp (standing R e, exists h₁, again-is h₂, above, h₄, fits, lt-leb (suc (length s.learned)) most_learned (omega (arith, learned_is R))))
 
               backtrack-accepted : r.learned < most_learned → (o : Entry) → Recorded o (foreground g (propagated m l n.instance))
-                  → (blank : Instanced) → blank ≡ packed_instanced no_instanced → Told s (Backtrack l) (appended_at (backtracked v.others blank r) v.kept o f m b)
+                  → (blank : Instanced) → blank ≡ packed_instanced no_instanced → Told s (Backtrack l) (appended_at (backtracked v.others blank r) v.kept o f (std.Some m) b)
               backtrack-accepted h o E blank none =
-                  subst (λ (i : ℕ). Told s (Backtrack l) (record { run = (appended_at (backtracked v.others blank r) v.kept o f m b).run; number = accepted; place = 0; learned = i; witness = b })) (sym number)
-                  (accepted_as R (Backtrack l) b.given says
+                  subst (λ (i : std.Option ℕ). Told s (Backtrack l) (record { run = (appended_at (backtracked v.others blank r) v.kept o f (std.Some m) b).run; number = accepted; place = 0; learned = i; witness = b })) (ap std.Some (sym number))
+                  (accepted_as R (Backtrack l) (is_some b) says
                   (simp (standing R e, exists h₁, again-is h₂, above, h₄, fits, le-leb (suc (length s.learned)) most_learned (omega (arith, learned_is R))) (tt, (tt, (tt, (tt, (tt, (tt, tt))))))) (hands R (Backtrack l) d together refl h₄)
                   _ (packed_as (next s (Backtrack l)) (version_is R) (constants_is R) (input_is R) (omega (arith, learned_is R, length-append s.learned (N.clause ∷ []))) back_is refl
-                  (subst (Stored (appended_at r v.kept o f m b).run.trail (v.kept + f.count + 1)) grown (appended_stored f new f-is (few_new G f-is) h₅ (cut_stored r.trail r.length v.kept (kept_below r l v-is) (stored_own (stored R))) E)) none))
+                  (subst (Stored (appended_at r v.kept o f (std.Some m) b).run.trail (v.kept + f.n + 1)) grown (appended_stored f new f-is (few_new G f-is) h₅ (cut_stored r.trail r.length v.kept (kept_below r l v-is) (stored_own (stored R))) E)) none))
 
   module _ (a b : Bool) (a-is : a ≡ literal_exists (instanced_of r.conflict).clause l)
       (b-is : b ≡ any_of (same_literal (literal_instance (instanced_of r.conflict) l)) (other_instances (instanced_of r.conflict) l))
       (v : LevelsSeen) (v-is : v ≡ levels_seen (instanced_of r.conflict) l (trail_of r.trail r.length)) (w : Tested)
-      (G : Gathers w (atoms_of (trail_of r.trail v.kept)) (ground_atoms (instanced_of r.conflict).instance (instanced_of r.conflict).clause.atoms)) (p : Witness) (d : WitnessOf r.constants (tested_atoms w) p)
-      (f : Atoms) (f-is : f ≡ packed_atoms (new_atoms (known_atoms w) (step_atoms w))) {n n₁ n₂ n₃ n₄ n₅ n₆ : ℕ} (e₆ : n₆ ≡ cond (ltb r.learned most_learned) 0 no_room)
-      (e₅ : n₅ ≡ cond (ltb (v.kept + f.count) most_entries) n₆ no_room) (e₄ : n₄ ≡ cond p.given n₅ kept_not_possible) (e₃ : n₃ ≡ cond (ltb v.others v.own) n₄ not_above) (e₂ : n₂ ≡ cond (not b) n₃ wrong_literal)
+      (G : Gathers w (atoms_of (trail_of r.trail v.kept)) (ground_atoms (instanced_of r.conflict).instance (instanced_of r.conflict).clause.atoms)) (p : Shown) (d : WitnessOf r.constants (tested_atoms w) p)
+      (f : Held Atom most_atoms) (f-is : f ≡ packed_atoms (new_atoms (known_atoms w) (step_atoms w))) {n n₁ n₂ n₃ n₄ n₅ n₆ : ℕ} (e₆ : n₆ ≡ cond (ltb r.learned most_learned) 0 no_room)
+      (e₅ : n₅ ≡ cond (ltb (v.kept + f.n) most_entries) n₆ no_room) (e₄ : n₄ ≡ cond (is_some p) n₅ kept_not_possible) (e₃ : n₃ ≡ cond (ltb v.others v.own) n₄ not_above) (e₂ : n₂ ≡ cond (not b) n₃ wrong_literal)
       (e₁ : n₁ ≡ cond a n₂ no_such) (e₀ : n ≡ cond r.stands n₁ wrong_moment) where
     pub backtrack_refused : ¬ (n ≡ 0) → Told s (Backtrack l) (refused_by r n)
     backtrack_refused h =
@@ -164,34 +167,39 @@ module _ {r : Run} {s : State} (R : RunOf r s) (l : ℕ) where
         asked a _ _ e₁ (λ f q. as_told (q₀ ∙ q) (backtrack_no_such t₀ (sym a-is ∙ f))) (λ t₁ q₁. let h₁ = sym a-is ∙ t₁ in
         asked (not b) _ _ e₂ (λ f q. as_told (q₀ ∙ q₁ ∙ q) (backtrack-again t₀ h₁ (sym b-is ∙ not-false b f))) (λ t₂ q₂. let h₂ = sym b-is ∙ not-true b t₂ in
         asked (ltb v.others v.own) _ _ e₃ (λ f q. as_told (q₀ ∙ q₁ ∙ q₂ ∙ q) (backtrack-not-above t₀ h₁ h₂ v v-is (ltb-false v.others v.own f))) (λ t₃ q₃. let h₃ = ltb-true v.others v.own t₃ in
-        asked p.given _ _ e₄ (λ f q. as_told (q₀ ∙ q₁ ∙ q₂ ∙ q₃ ∙ q) (backtrack-impossible t₀ h₁ h₂ v v-is h₃ w G p d f)) (λ t₄ q₄.
-        asked (ltb (v.kept + f.count) most_entries) _ _ e₅
-        (λ g q. as_told (q₀ ∙ q₁ ∙ q₂ ∙ q₃ ∙ q₄ ∙ q) (backtrack-long t₀ h₁ h₂ v v-is h₃ w G p d t₄ f f-is (literal_instance (instanced_of r.conflict) l) refl (ltb-false (v.kept + f.count) most_entries g))) (λ t₅ q₅.
+        asked (is_some p) _ _ e₄ (λ f q. as_told (q₀ ∙ q₁ ∙ q₂ ∙ q₃ ∙ q) (backtrack-impossible t₀ h₁ h₂ v v-is h₃ w G p d f)) (λ t₄ q₄.
+        asked (ltb (v.kept + f.n) most_entries) _ _ e₅
+        (λ g q. as_told (q₀ ∙ q₁ ∙ q₂ ∙ q₃ ∙ q₄ ∙ q) (backtrack-long t₀ h₁ h₂ v v-is h₃ w G p d t₄ f f-is (literal_instance (instanced_of r.conflict) l) refl (ltb-false (v.kept + f.n) most_entries g))) (λ t₅ q₅.
         asked (ltb r.learned most_learned) _ _ e₆
-        (λ g q. as_told (q₀ ∙ q₁ ∙ q₂ ∙ q₃ ∙ q₄ ∙ q₅ ∙ q) (backtrack-no-room t₀ h₁ h₂ v v-is h₃ w G p d t₄ f f-is (literal_instance (instanced_of r.conflict) l) refl (ltb-true (v.kept + f.count) most_entries t₅) (ltb-false r.learned most_learned g)))
+        (λ g q. as_told (q₀ ∙ q₁ ∙ q₂ ∙ q₃ ∙ q₄ ∙ q₅ ∙ q) (backtrack-no-room t₀ h₁ h₂ v v-is h₃ w G p d t₄ f f-is (literal_instance (instanced_of r.conflict) l) refl (ltb-true (v.kept + f.n) most_entries t₅) (ltb-false r.learned most_learned g)))
         (λ t₆ q₆. absurd (h (q₀ ∙ q₁ ∙ q₂ ∙ q₃ ∙ q₄ ∙ q₅ ∙ q₆)))))))))
 
     -- There is room ..
-    pub backtrack_fits : n ≡ 0 → (f.count ≤ most_atoms) × (v.kept + f.count < most_entries) × (r.learned < most_learned)
+    pub backtrack_fits : n ≡ 0 → (f.n ≤ most_atoms) × (v.kept + f.n < most_entries) × (r.learned < most_learned)
     backtrack_fits o =
         let (t₀, z₁) = passed r.stands _ _ e₀ tt o in
         let (t₁, z₂) = passed a _ _ e₁ tt z₁ in
         let (t₂, z₃) = passed (not b) _ _ e₂ tt z₂ in
         let (t₃, z₄) = passed (ltb v.others v.own) _ _ e₃ tt z₃ in
-        let (t₄, z₅) = passed p.given _ _ e₄ tt z₄ in
-        let (t₅, z₆) = passed (ltb (v.kept + f.count) most_entries) _ _ e₅ tt z₅ in
+        let (t₄, z₅) = passed (is_some p) _ _ e₄ tt z₄ in
+        let (t₅, z₆) = passed (ltb (v.kept + f.n) most_entries) _ _ e₅ tt z₅ in
         let (t₆, z₇) = passed (ltb r.learned most_learned) _ _ e₆ tt z₆ in
-        (few_new G f-is, ltb-true (v.kept + f.count) most_entries t₅, ltb-true r.learned most_learned t₆)
+        (few_new G f-is, ltb-true (v.kept + f.n) most_entries t₅, ltb-true r.learned most_learned t₆)
+
+    constants-few : take most_variables (instanced_of r.conflict).instance ≡ (instanced_of r.conflict).instance
+    constants-few =
+        let room : length r.conflict.instance ≡ most_variables = ap (λ (q : Instanced). length q.instance) (conflict_is R) ∙ exactly_length 0 most_variables (conflict_of s.conflict).instance in
+        take_all most_variables (instanced_of r.conflict).instance (omega (arith, room, length-take r.conflict.clause.variables r.conflict.instance))
 
     -- .. and what is stored is what the rule names.
     pub backtrack_told : n ≡ 0 → (g : Literal) → g ≡ literal_instance (instanced_of r.conflict) l → (e : Entry)
-        → Recorded e (foreground g (propagated (r.input + r.learned + 1) l (instanced_of r.conflict).instance)) → (blank : Instanced) → blank ≡ packed_instanced no_instanced
-        → Told s (Backtrack l) (appended_at (backtracked v.others blank r) v.kept e f (r.input + r.learned + 1) p)
+        → Recorded e (foreground g (propagated (r.input + r.learned + 1) l (take most_variables (instanced_of r.conflict).instance))) → (blank : Instanced) → blank ≡ packed_instanced no_instanced
+        → Told s (Backtrack l) (appended_at (backtracked v.others blank r) v.kept e f (std.Some (r.input + r.learned + 1)) p)
     backtrack_told o g g-is e E blank none =
         let (t₀, z₁) = passed r.stands _ _ e₀ tt o in
         let (t₁, z₂) = passed a _ _ e₁ tt z₁ in
         let (t₂, z₃) = passed (not b) _ _ e₂ tt z₂ in
         let (t₃, z₄) = passed (ltb v.others v.own) _ _ e₃ tt z₃ in
-        let (t₄, z₅) = passed p.given _ _ e₄ tt z₄ in
+        let (t₄, z₅) = passed (is_some p) _ _ e₄ tt z₄ in
         let (few, fits, learnable) = backtrack_fits o in
-        backtrack-accepted t₀ (sym a-is ∙ t₁) (sym b-is ∙ not-true b t₂) v v-is (ltb-true v.others v.own t₃) w G p d t₄ f f-is g g-is fits learnable e E blank none
+        backtrack-accepted t₀ (sym a-is ∙ t₁) (sym b-is ∙ not-true b t₂) v v-is (ltb-true v.others v.own t₃) w G p d t₄ f f-is g g-is fits learnable e (rw constants-few at E) blank none

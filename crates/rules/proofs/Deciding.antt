@@ -5,7 +5,8 @@ use mathlib.Core.Option.{Option}
 use mathlib.Core.Bool.{false}
 use Prim.Native.Nat.{◌+◌, ◌<◌, ◌≤◌, min, ℕ}
 use native.Mathlib.Omega.{arith}
-use lib.ListN.{get_or, length}
+use lib.ListN.{get_or, length, length-take, take}
+use lib.Seq.{get_or-take}
 use Rattle.basis.specs.Atoms.{no_atom}
 use Rattle.basis.specs.Limits.{most_brought, most_entries, most_variables}
 use Rattle.basis.specs.Numbers.{whole}
@@ -24,6 +25,7 @@ use Rattle.calculus.specs.Trails as trails
 use Rattle.clauses.specs.Records.{packed_instanced}
 use Rattle.trail.proofs.Stored.{stored_length}
 use Rattle.asking.proofs.Brought.{brought_at_lem, brought_length}
+use Rattle.asking.specs.Trying.{given_number}
 use Rattle.asking.specs.Looking.{named_at}
 use Rattle.asking.specs.Steps.{decide_of, no_source, source_of, sources_in}
 use Rattle.asking.specs.declared.Named.{Named}
@@ -43,11 +45,11 @@ module _ {r : Run} {s : State} (R : RunOf r s) {x : Step} {w : Weighed} (W : Wei
   abbrev y : states.Step
   y = decide_of x
 
-  pub decide_refused : ¬ (w.number ≡ 0) → Told s y (refused_by r w.number)
+  pub decide_refused : ¬ (given_number w.refusal ≡ 0) → Told s y (refused_by r (given_number w.refusal))
   decide_refused h =
       refused_as R y W.judged (λ e. h (W.number ∙ e)) (λ e. not_lacking not_false (conditions whole s y) tt (subst (λ (n : ℕ). FirstLacking n (conditions whole s y)) e W.judged.first_lacking)) W.number
 
-  module _ (o : w.number ≡ 0) where
+  module _ (o : given_number w.refusal ≡ 0) where
     -- What the step brings
     abbrev zs : List trails.Source
     zs = brought_at s (sources_in x.brought x)
@@ -66,11 +68,15 @@ module _ {r : Run} {s : State} (R : RunOf r s) {x : Step} {w : Weighed} (W : Wei
         ap (λ (n : ℕ). record { clause = z.clause; number = z.number; sign = z.sign; instance = exactly n 0 z.instance }) short ∙ sym at
 
     -- .. and what is stored is what the rule names.
-    pub decide_told : length x.instance ≡ most_variables → {named : Named} → named ≡ named_at s y → Told s y (decided_at r w.own w.count named.at x.atoms w.witness)
+    pub decide_told : length x.instance ≡ most_variables → {named : Named} → named ≡ named_at s y → Told s y (decided_at r w.own (take w.count named.at) (take w.count x.atoms) w.witness)
     decide_told long {named} n-is =
+        let room : length named.at ≡ most_brought = ap (λ (q : Named). length q.at) n-is ∙ exactly_length no_atom most_brought _ in
+        let counted : length (take w.count named.at) ≡ w.count = omega (arith, length-take w.count named.at, decide_fits.0) in
         accepted_as R y (met (fine R) W o).possible (met (fine R) W o).decides (met (fine R) W o).checks (hands (fine R) W o)
         _ (packed_as (next s y) (version_is R) (constants_is R) (input_is R) (learned_is R) (omega (arith, level_is R)) (stands_is R ∙ free)
-        (brought_stored (clauses s) zs named.at x.atoms (all_counted (fine R) W o) decide_fits.1 (λ j h. ap (λ (q : Named). get_or q.at j no_atom) n-is ∙ atoms_at (fine R) W o j h) source_at (short_sources (fine R) W o) (stored R) (own_is (fine R) W o long))
+        (brought_stored (clauses s) zs (take w.count named.at) (take w.count x.atoms) (counted ∙ all_counted (fine R) W o) (omega (arith, counted, decide_fits.1))
+        (λ j h. get_or-take w.count named.at j no_atom (omega arith) ∙ ap (λ (q : Named). get_or q.at j no_atom) n-is ∙ atoms_at (fine R) W o j (omega arith))
+        (λ j h. ap source_kept (get_or-take w.count x.atoms j no_source (omega arith)) ∙ source_at j (omega arith)) (short_sources (fine R) W o) (stored R) (own_is (fine R) W o long))
         (conflict_is R ∙ ap (λ (o : Option calculus.Instanced). packed_instanced (conflict_of o)) (no_conflict s.conflict free)))
       where
         free : stands s.conflict ≡ false

@@ -1,18 +1,20 @@
--- What Propagate, Decide and Backtrack store in place: the loops that append the new atoms or those brought, and that cut a trail.
-use mathlib.Core.Path.{◌≡◌, ◌∙◌, ap, refl, subst, sym, transport}
+-- What Propagate, Decide and Backtrack store in place: a trail that is cut, and the new atoms or those brought behind it.
+use mathlib.Core.Path.{◌≡◌, ◌∙◌, ap, ap₂, refl, subst, sym, transport}
 use mathlib.Core.Option.{none, some}
 use mathlib.Core.Bool.{false}
 use mathlib.Core.List.{List, Memᴰ, [], ◌++◌, ◌∷◌}
 use Prim.Native.Nat.{◌+◌, ◌-◌, ◌<◌, ◌≤◌, min, suc, zero, ℕ}
 use native.Mathlib.Decide.{dec_le}
 use native.Mathlib.Omega.{arith}
-use lib.ListN.{get_or-map, get_or, length, length-map, set, take}
-use lib.Seq.{take_all, take-length, take-suc}
+use lib.ListN.{drop, get_or-map, get_or, length, length-map, length-take, replicate, set, take}
+use lib.Seq.{drop-drop, take_all, take-length, take-suc}
+use Rattle.std.proofs.lemmas.List.{length_push, take-append-drop}
+use Rattle.std.proofs.lemmas.List.FromFn.{get_or-enumerate_from, length-enumerate_from}
+use Rattle.std.proofs.lemmas.Slice.Zip.{get_or-zip, length-zip}
+use Rattle.std.specs.List.{enumerate_from, zip}
 use Rattle.basis.specs.Atoms.{no_atom}
 use Rattle.basis.specs.Limits.{most_atoms, most_entries, most_variables}
-use Rattle.basis.specs.Refusals.{accepted}
 use Rattle.basis.specs.declared.Atom.{Atom}
-use Rattle.basis.specs.declared.Witness.{Witness}
 use Rattle.lists.proofs.Arrays.{exactly_take, get_d_any}
 use Rattle.lists.proofs.Members.{get_d_mem}
 use Rattle.lists.specs.Arrays.{exactly}
@@ -22,25 +24,23 @@ use Rattle.calculus.specs.Trails as calculus
 use Rattle.calculus.specs.Trails.{Trail, background}
 use Rattle.clauses.specs.declared.Instanced.{Instanced}
 use Rattle.rules.specs.declared.Run.{Run}
-use Rattle.rules.specs.declared.Stepped.{Stepped}
 use Rattle.rules.proofs.Runs.{restored}
-use Rattle.rules.specs.Records.{decided_at, lengthened, source_kept, with_atoms, with_brought, without_entries}
-use Rattle.asking.proofs.Sources.{past_source}
+use Rattle.rules.specs.Records.{source_kept, with_atoms, with_brought, without_entries}
 use Rattle.asking.specs.Steps.{no_source, source_of}
 use Rattle.asking.specs.declared.Source.{Source}
 use Rattle.testing.proofs.New.{new_few, stored_new}
 use Rattle.testing.proofs.Gathering.{step_says}
 use Rattle.testing.specs.Asked.{Gathers, known_atoms, step_atoms}
 use Rattle.testing.specs.New.{new_atoms, packed_atoms, pushed_atoms}
-use Rattle.testing.specs.declared.Atoms.{Atoms}
+use Rattle.lists.specs.declared.Held.{Held}
 use Rattle.testing.specs.declared.Tested.{Tested}
 use Rattle.trail.proofs.Stored.{stored_back, stored_pushed}
 use Rattle.trail.specs.Entries.{OwnTrail, Recorded, Stored, blank_entry, packed_entry, trail_of}
 use Rattle.trail.specs.declared.Entry.{Entry}
 
 -- No more atoms are new than a clause has.
-pub few_new : {w : Tested} {ts az : List Atom} {f : Atoms} → Gathers w ts az → f ≡ packed_atoms (new_atoms (known_atoms w) (step_atoms w)) → f.count ≤ most_atoms
-few_new {w} G e = omega (arith, ap (λ (q : Atoms). q.count) e, new_few (known_atoms w) (step_atoms w), ap length (step_says G), G.few_step)
+pub few_new : {w : Tested} {ts az : List Atom} {f : Held Atom most_atoms} → Gathers w ts az → f ≡ packed_atoms (new_atoms (known_atoms w) (step_atoms w)) → f.n ≤ most_atoms
+few_new {w} G e = omega (arith, ap (λ (q : Held Atom most_atoms). q.n) e, new_few (known_atoms w) (step_atoms w), ap length (step_says G), G.few_step)
 
 -- The run that Backtrack appends to, with one clause more learned and no conflict
 abbrev pub backtracked : ℕ → Instanced → Run → Run
@@ -48,38 +48,17 @@ backtracked k blank q = record { version = q.version; constants = q.constants; i
 
 -- ---- the new atoms appended
 
--- Of the run `first`, whose array holds m + 1 entries, `now` differs by the first j of the new atoms behind them.
-pub record Grows (first now : Run) (f : Atoms) (m j : ℕ) : Type 0 where
-  pub few : j ≤ f.count
-  pub is : now ≡ restored first (with_atoms first.trail m f.at j)
-
-module _ {first now : Run} {f : Atoms} {m j : ℕ} (G : Grows first now f m j) where
-  pub grows_turn : j < f.count → {k : ℕ} → k ≡ m + (j + 1) → {e : Entry} → Recorded e (background (get_or f.at j no_atom) none) → Grows first (restored now (set now.trail k e)) f m (j + 1)
-  grows_turn h {k} at R =
-      let slot : k ≡ m + suc j = omega (arith, at) in
-      let more : suc j ≡ j + 1 = omega arith in
-      record {
-        few = omega arith;
-        is = (λ i. restored (G.is i) (set (G.is i).trail (slot i) (R.is i))) ∙ ap (λ (n : ℕ). restored first (with_atoms first.trail m f.at n)) more;
-      }
-
-  -- All are appended.
-  grown_all : f.count ≤ j → (n c : ℕ) (w : Witness) → lengthened now n now.trail c w ≡ lengthened first n (with_atoms first.trail m f.at f.count) c w
-  grown_all h n c w =
-      let all : j ≡ f.count = omega (arith, G.few) in
-      (λ i. lengthened (G.is i) n (G.is i).trail c w) ∙ ap (λ (i : ℕ). lengthened first n (with_atoms first.trail m f.at i) c w) all
-
 -- What is stored is the trail with the entry and the new atoms.
-pub appended_stored : {es : List Entry} {t : Trail} {e : Entry} {x : calculus.Entry} {m : ℕ} (f : Atoms) (az : List Atom) → f ≡ packed_atoms az → f.count ≤ most_atoms → m + f.count < most_entries
-    → Stored es m t → Recorded e x → Stored (with_atoms (set es m e) m f.at f.count) (m + f.count + 1) (pushed_atoms az (x ∷ t))
+pub appended_stored : {es : List Entry} {t : Trail} {e : Entry} {x : calculus.Entry} {m : ℕ} (f : Held Atom most_atoms) (az : List Atom) → f ≡ packed_atoms az → f.n ≤ most_atoms → m + f.n < most_entries
+    → Stored es m t → Recorded e x → Stored (with_atoms (set es m e) m f.at f.n) (m + f.n + 1) (pushed_atoms az (x ∷ t))
 appended_stored {es} {t} {e} {x} {m} f az p few room S R =
-    subst (λ (q : List Atom). Stored (with_atoms (set es m e) m f.at f.count) (m + f.count + 1) (pushed_atoms q (x ∷ t))) whole
-    (subst (λ (i : ℕ). Stored (with_atoms (set es m e) m f.at f.count) i (pushed_atoms (take f.count az) (x ∷ t))) (omega arith) (go f.count (omega arith)))
+    subst (λ (q : List Atom). Stored (with_atoms (set es m e) m f.at f.n) (m + f.n + 1) (pushed_atoms q (x ∷ t))) whole
+    (subst (λ (i : ℕ). Stored (with_atoms (set es m e) m f.at f.n) i (pushed_atoms (take f.n az) (x ∷ t))) (omega arith) (go f.n (omega arith)))
   where
-    whole : take f.count az ≡ az
-    whole = ap (λ (q : Atoms). take q.count az) p ∙ take-length az
+    whole : take f.n az ≡ az
+    whole = ap (λ (q : Held Atom most_atoms). take q.n az) p ∙ take-length az
 
-    go : (j : ℕ) → j ≤ f.count → Stored (with_atoms (set es m e) m f.at j) (m + suc j) (pushed_atoms (take j az) (x ∷ t))
+    go : (j : ℕ) → j ≤ f.n → Stored (with_atoms (set es m e) m f.at j) (m + suc j) (pushed_atoms (take j az) (x ∷ t))
     go zero h = subst (λ (i : ℕ). Stored (set es m e) i (x ∷ t)) (omega arith) (stored_pushed S (omega arith) R)
     go (suc j) h =
         let more : j + 1 ≡ suc j = omega arith in
@@ -90,33 +69,28 @@ appended_stored {es} {t} {e} {x} {m} f az p few room S R =
 
 -- ---- the trail cut
 
--- Of the run `first` only the first k entries stand, and no fewer than the m that are kept.
-pub record Cuts (first now : Run) (m k : ℕ) : Type 0 where
-  pub few : k ≤ first.length
-  pub low : first.length - k ≤ first.length - m
-  pub is : now ≡ restored first (without_entries first.trail first.length (first.length - k))
+set_next : {A : Type 0} (l after : List A) (k : ℕ) (x : A) → k < length l → set (take (suc k) l ++ after) k x ≡ take k l ++ (x ∷ after)
+set_next [] after k x h = absurd (omega arith)
+set_next (y ∷ l) after zero x h = refl
+set_next {A} (y ∷ l) after (suc k) x h = ap {B = List A} (λ r. y ∷ r) (set_next l after k x (omega arith))
 
-pub cuts_start : (r : Run) (m : ℕ) → Cuts r r m r.length
-cuts_start r m =
-    let none : 0 ≡ r.length - r.length = omega arith in
-    record { few = omega arith; low = omega arith; is = ap (λ (d : ℕ). restored r (without_entries r.trail r.length d)) none }
+-- The last d of n entries are blank, and nothing else is changed.
+without_last : (es : List Entry) (n d : ℕ) → n ≤ length es → d ≤ n → without_entries es n d ≡ take (n - d) es ++ (replicate d blank_entry ++ drop n es)
+without_last es n zero long h = let whole : n ≡ n - 0 = omega arith in sym (take-append-drop n es) ∙ ap (λ k. take k es ++ drop n es) whole
+without_last es n (suc d) long h =
+    let after = replicate d blank_entry ++ drop n es in
+    let at : n - d ≡ suc (n - suc d) = omega arith in
+    ap (λ l. set l (n - suc d) blank_entry) (without_last es n d long (omega arith) ∙ ap (λ k. take k es ++ after) at) ∙ set_next es after (n - suc d) blank_entry (omega arith)
 
-module _ {first now : Run} {m k : ℕ} (C : Cuts first now m k) where
-  pub cuts_turn : m < k → {i : ℕ} → k ≡ suc i → {e : Entry} → e ≡ blank_entry → Cuts first (restored now (set now.trail i e)) m i
-  cuts_turn h {i} at b =
-      let slot : i ≡ first.length - suc (first.length - k) = omega (arith, at, C.few) in
-      let more : suc (first.length - k) ≡ first.length - i = omega (arith, at, C.few) in
-      record {
-        few = omega (arith, at, C.few);
-        low = omega (arith, at, C.few);
-        is = (λ j. restored (C.is j) (set (C.is j).trail (slot j) (b j))) ∙ ap (λ (d : ℕ). restored first (without_entries first.trail first.length d)) more;
-      }
-
-  -- All that go are blank.
-  cut_all : k ≤ m → now ≡ restored first (without_entries first.trail first.length (first.length - m))
-  cut_all h =
-      let all : first.length - k ≡ first.length - m = omega (arith, C.low) in
-      C.is ∙ ap (λ (d : ℕ). restored first (without_entries first.trail first.length d)) all
+-- The entries from m up to n filled with blanks
+pub blanked : (es : List Entry) (n m k : ℕ) → k ≡ min m n → n ≤ length es → take k es ++ (replicate (n - k) blank_entry ++ drop (n - k) (drop k es)) ≡ without_entries es n (n - m)
+blanked es n m k e long =
+    let all : k + (n - k) ≡ n = omega arith in
+    let kept : n - (n - m) ≡ k = omega arith in
+    let gone : n - k ≡ n - m = omega arith in
+    ap (λ l. take k es ++ (replicate (n - k) blank_entry ++ l)) (drop-drop (n - k) k es ∙ ap (λ i. drop i es) all)
+    ∙ ap₂ (λ i d. take i es ++ (replicate d blank_entry ++ drop n es)) (sym kept) gone
+    ∙ sym (without_last es n (n - m) long (omega arith))
 
 -- What is stored is what is kept.
 pub cut_stored : (es : List Entry) (n m : ℕ) → m ≤ n → OwnTrail es n → Stored (without_entries es n (n - m)) m (trail_of es m)
@@ -127,13 +101,6 @@ cut_stored es n m h S =
     go : (d : ℕ) → d ≤ n → Stored (without_entries es n d) (n - d) (trail_of es (n - d))
     go zero h = let whole : n ≡ n - 0 = omega arith in subst (λ (i : ℕ). Stored es i (trail_of es i)) whole S
     go (suc d) h = stored_back (without_entries es n d) es (n - d) (n - suc d) blank_entry (omega arith) refl (go d (omega arith))
-
--- ---- both
-
--- The run that is cut and then grown
-pub appended_all : {r q now : Run} {f : Atoms} {m k j : ℕ} (e : Entry) → Cuts r q m k → k ≤ m → Grows (restored q (set q.trail m e)) now f m j → f.count ≤ j
-    → (n c : ℕ) (w : Witness) → lengthened now n now.trail c w ≡ lengthened r n (with_atoms (set (without_entries r.trail r.length (r.length - m)) m e) m f.at f.count) c w
-appended_all {f = f} {m = m} e C low G all n c w = grown_all G all n c w ∙ ap (λ (q : Run). lengthened q n (with_atoms (set q.trail m e) m f.at f.count) c w) (cut_all C low)
 
 -- ---- the atoms brought
 
@@ -146,41 +113,32 @@ kept_first n τ long = elim (dec_le n most_variables) [
       take_all n τ (omega arith) ∙ sym (take_all most_variables τ (omega arith)) ∙ ap (λ (k : ℕ). take k τ) least ∙ sym (exactly_take 0 (min most_variables n) τ (omega arith))
 ]
 
-pub recorded_source : {e : Entry} {a : Atom} (z : Source) → length z.instance ≡ most_variables → Recorded e (background a (some (record { clause = z.clause; number = z.number; sign = z.sign; instance = take z.count z.instance }))) → Recorded e (background a (some (source_kept z)))
-recorded_source {e} {a} z long = subst (λ (τ : List ℕ). Recorded e (background a (some (record { clause = z.clause; number = z.number; sign = z.sign; instance = τ })))) (kept_first z.count z.instance long)
+pub recorded_source : {e : Entry} {a : Atom} (z : Source) → length z.instance ≡ most_variables → {τ : List ℕ} → τ ≡ take z.count z.instance
+    → Recorded e (background a (some (record { clause = z.clause; number = z.number; sign = z.sign; instance = take most_variables τ }))) → Recorded e (background a (some (source_kept z)))
+recorded_source {e} {a} z long q =
+    subst (λ (τ : List ℕ). Recorded e (background a (some (record { clause = z.clause; number = z.number; sign = z.sign; instance = τ })))) (ap (take most_variables) q ∙ take_all most_variables (take z.count z.instance) (omega (arith, length-take z.count z.instance)) ∙ kept_first z.count z.instance long)
 
--- Of the run `first`, whose array holds m + 1 entries, `now` differs by the first j of the n atoms brought behind them.
-pub record Brings (first now : Run) (az : List Atom) (zs : List Source) (m n j : ℕ) : Type 0 where
-  pub few : j ≤ n
-  pub is : now ≡ restored first (with_brought first.trail m az zs j)
+-- Of two lists side by side and counted, the item with the number i
+pub pair_at : {A B : Type 0} (ks : List A) (vs : List B) (i : ℕ) {j : ℕ} {a : A} {b : B} → let all = enumerate_from 0 (zip ks vs) in i < length all → (j, (a, b)) ≡ get_or all i (j, (a, b))
+    → (j ≡ i) × (a ≡ get_or ks i a) × (b ≡ get_or vs i b) × (i < length ks) × (i < length vs)
+pair_at ks vs i {j} {a} {b} h e =
+    let both = zip ks vs in
+    let few : i < min (length ks) (length vs) = omega (arith, h, length-enumerate_from 0 both, length-zip ks vs) in
+    let x = e ∙ get_or-enumerate_from 0 both i (j, (a, b)) (omega (arith, few, length-zip ks vs)) ∙ ap (λ p. (0 + i, p)) (get_or-zip ks vs i (a, b) (omega (arith, few)) (omega (arith, few))) in
+    (omega (arith, ap (λ p. p.0) x), ap (λ p. p.1.0) x, ap (λ p. p.1.1) x, omega (arith, few), omega (arith, few))
 
-module _ {first now : Run} {az : List Atom} {zs : List Source} {m n j : ℕ} (B : Brings first now az zs m n j) where
-  pub brings_turn : j < n → j < length zs → {k : ℕ} → k ≡ m + (j + 1) → {e : Entry} → Recorded e (background (get_or az j no_atom) (some (source_kept (get_or zs j past_source)))) → Brings first (restored now (set now.trail k e)) az zs m n (j + 1)
-  brings_turn h inside {k} at {e} R =
-      let slot : k ≡ m + suc j = omega (arith, at) in
-      let more : suc j ≡ j + 1 = omega arith in
-      let own : e ≡ packed_entry (background (get_or az j no_atom) (some (source_kept (get_or zs j no_source)))) = R.is ∙ ap (λ (z : Source). packed_entry (background (get_or az j no_atom) (some (source_kept z)))) (get_d_any zs j past_source no_source inside) in
-      record {
-        few = omega arith;
-        is = (λ i. restored (B.is i) (set (B.is i).trail (slot i) (own i))) ∙ ap (λ (n : ℕ). restored first (with_brought first.trail m az zs n)) more;
-      }
-
-  -- All are appended.
-  brought_all : n ≤ j → now ≡ restored first (with_brought first.trail m az zs n)
-  brought_all h = let all : j ≡ n = omega (arith, B.few) in B.is ∙ ap (λ (i : ℕ). restored first (with_brought first.trail m az zs i)) all
-
--- The run with one level more and so many entries
-abbrev deeper : ℕ → Witness → Run → Stepped
-deeper n w q = record {
-  run = record { version = q.version; constants = q.constants; input = q.input; learned = q.learned; level = q.level + 1; length = n; stands = q.stands; trail = q.trail; conflict = q.conflict };
-  number = accepted;
-  place = 0;
-  learned = 0;
-  witness = w;
-}
-
-pub decided_all : {now : Run} {az : List Atom} {zs : List Source} {n j : ℕ} (r : Run) (e : Entry) → Brings (restored r (set r.trail r.length e)) now az zs r.length n j → n ≤ j → (w : Witness) → deeper (r.length + n + 1) w now ≡ decided_at r e n az zs w
-decided_all {n = n} r e B h w = ap (deeper (r.length + n + 1) w) (brought_all B h)
+-- One more of the atoms brought is stored.
+pub brings_turn : (first : Run) {now : Run} (az : List Atom) (zs : List Source) (m : ℕ) {Y : Type 0} (yielded : List Y) (y : Y) → now ≡ restored first (with_brought first.trail m az zs (length yielded)) → {j : ℕ} {a : Atom} {z : Source}
+    → (j ≡ length yielded) × (a ≡ get_or az (length yielded) a) × (z ≡ get_or zs (length yielded) z) × (length yielded < length az) × (length yielded < length zs) → {e : Entry} → Recorded e (background a (some (source_kept z)))
+    → restored now (set now.trail (m + 1 + j) e) ≡ restored first (with_brought first.trail m az zs (length (yielded ++ (y ∷ []))))
+brings_turn first {now} az zs m yielded y is {j} {a} {z} at {e} R =
+    let i = length yielded in
+    let slot : m + 1 + j ≡ m + suc i = omega (arith, at.0) in
+    let more : suc i ≡ length (yielded ++ (y ∷ [])) = omega (arith, length_push yielded y) in
+    let atom : a ≡ get_or az i no_atom = at.1 ∙ get_d_any az i a no_atom at.3 in
+    let source : z ≡ get_or zs i no_source = at.2 ∙ get_d_any zs i z no_source at.4 in
+    let own : e ≡ packed_entry (background (get_or az i no_atom) (some (source_kept (get_or zs i no_source)))) = R.is ∙ ap₂ (λ (x : Atom) (w : Source). packed_entry (background x (some (source_kept w)))) atom source in
+    (λ k. restored (is k) (set (is k).trail (slot k) (own k))) ∙ ap (λ (n : ℕ). restored first (with_brought first.trail m az zs n)) more
 
 brought_more : (cs : List clauses.Clause) (zs : List calculus.Source) (z : calculus.Source) (t : Trail) → bring cs (zs ++ (z ∷ [])) t ≡ background (source_atom cs z) (some z) ∷ bring cs zs t
 brought_more cs [] z t = refl

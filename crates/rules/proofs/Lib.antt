@@ -13,3 +13,4 @@ pub mod Resolving
 pub mod Simple
 pub mod Backtracking
 pub mod Steps
+pub mod Places

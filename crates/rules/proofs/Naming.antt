@@ -2,11 +2,12 @@
 use mathlib.Core.Path.{◌∙◌, ◌≡◌, ap, refl, subst, sym}
 use mathlib.Core.List.{List}
 use mathlib.Core.Bool.{Bool, ◌&&◌, false, true}
-use Prim.Native.Nat.{◌+◌, ◌-◌, ◌<◌, ◌≤◌, suc, zero, ℕ}
+use Prim.Native.Nat.{◌+◌, ◌-◌, ◌<◌, ◌≤◌, suc, zero, min, ℕ}
 use native.Mathlib.Omega.{arith}
 use lib.Dec.{T, leb}
 use lib.ListN.{get_or, length, take}
 use lib.Seq.{length-take-le}
+use Rattle.std.proofs.lemmas.List.{take_min}
 use borrow.Author.Tests.{le-leb, lt-leb}
 use Rattle.basis.specs.Limits.{most_variables}
 use Rattle.lists.proofs.Arrays.{exactly_length, exactly_take}
@@ -28,6 +29,10 @@ use Rattle.calculus.specs.Clauses as calculus
 -- As many constants as are counted: what a step names, and what the code reads
 pub instance_is : (count : ℕ) (τ : List ℕ) → count ≤ length τ → exactly count 0 τ ≡ take count τ
 instance_is count τ h = exactly_take 0 count τ h
+
+-- The constants that are read: as many as are counted, and no more than there is room for
+pub constants_read : (count : ℕ) (τ : List ℕ) → length τ ≡ most_variables → {k : ℕ} → k ≡ min count most_variables → take k τ ≡ take count τ
+constants_read count τ long {k} e = let least : k ≡ min count (length τ) = omega (arith, e, long) in ap (λ (n : ℕ). take n τ) least ∙ take_min count τ
 
 pub instance_long : (count : ℕ) (τ : List ℕ) → most_variables < count → leb (length (exactly count 0 τ)) most_variables ≡ false
 instance_long count τ h = rw (exactly_length 0 count τ) (lt-leb count most_variables h)

@@ -1,26 +1,25 @@
 -- Resolve: the last entry's reason is read off its step, and the limits are counted on the resolvent.
+use Rattle.std.specs.Prelude as std
 use mathlib.Core.Path.{◌∙◌, ◌≡◌, ap, refl, subst, sym}
 use mathlib.Core.List.{List, Memᴰ, [], ◌∷◌}
 use mathlib.Core.Option.{none, some}
 use mathlib.Core.Bool.{Bool, cond, false, true}
 use Prim.Native.Nat.{◌-◌, ◌<◌, ◌≤◌, suc, zero, ℕ}
 use native.Mathlib.Omega.{arith}
-use lib.Dec.{T, eqb, ltb}
+use lib.Dec.{T, ltb}
 use borrow.Author.Tests.{ltb-false, ltb-true}
 use lib.ListN.{get_or, length, take}
 use lib.Seq.{take-length}
 use Rattle.basis.specs.Limits.{most_literals}
-use Rattle.basis.specs.Refusals.{no_entry, no_room, no_such, not_false, wrong_literal, wrong_moment}
+use Rattle.basis.specs.Refusals.{no_entry, no_room, no_such, wrong_literal, wrong_moment}
 use Rattle.basis.specs.declared.Literal.{Literal}
-use Rattle.basis.specs.declared.Witness.{Witness}
 use Rattle.lists.proofs.Tests.{and_l, and_r}
 use Rattle.rules.specs.Answers.{RunOf, Told}
 use Rattle.asking.specs.Looking.{held_at, last_named, looked_at}
-use Rattle.rules.specs.Records.{packed_run, refused_at, refused_by, taken_up}
+use Rattle.rules.specs.Records.{Shown, packed_run, refused_by, taken_up}
 use Rattle.asking.specs.Kinds.{is_propagated}
 use Rattle.asking.specs.declared.Looked.{Looked}
 use Rattle.rules.specs.declared.Run.{Run}
-use Rattle.rules.specs.declared.Stepped.{Stepped}
 use Rattle.calculus.proofs.Class.{limited_of, placed}
 use Rattle.calculus.proofs.Derived.{reason_sized}
 use Rattle.calculus.proofs.Instances.{Sized}
@@ -36,13 +35,13 @@ use Rattle.clauses.proofs.Records.{packed_instanced_says, packed_says}
 use Rattle.clauses.specs.Records.{clause_of, instanced_of, packed, packed_instanced}
 use Rattle.clauses.specs.declared.Clause.{Clause}
 use Rattle.clauses.specs.declared.Instanced.{Instanced}
-use Rattle.joining.specs.Fitted.{fitted, too_large}
-use Rattle.joining.specs.declared.Merged.{Merged}
+use Rattle.joining.specs.Fitted.{fitted}
+use Rattle.std.specs.Option.{is_some, unwrap_or}
 use Rattle.merging.proofs.Own.{stay_few}
 use Rattle.merging.proofs.Whole.{merge_limits}
 use Rattle.merging.specs.Results.{reason_of, resolved}
 use Rattle.reaching.proofs.Reached.{AllFine, Fine}
-use Rattle.rules.proofs.Asking.{as_told, asked, either_told, no_place, passed}
+use Rattle.rules.proofs.Asking.{as_told, asked, passed}
 use Rattle.rules.proofs.Naming.{looks_named}
 use Rattle.rules.proofs.Runs.{conflict_is, conflict_says, fine, fine_conflict, last_shown, none_shown, stands_shown, with_conflict, within}
 use Rattle.reaching.proofs.Handing.{hands_none, nothing_asked}
@@ -53,21 +52,21 @@ use Rattle.merging.specs.declared.Reason as reasons
 use Rattle.calculus.specs.Clauses as calculus
 use Rattle.trail.specs.declared.Entry as entries
 use Rattle.trail.specs.declared.Kind.TheVariants.{Background, Brought, Propagated, Decided}
-use Rattle.constraint.specs.Witnesses.{packed_witness}
+use Rattle.constraint.specs.Witnesses.{packed_given}
 
 -- ---- the reason has room
 
-fits_is : (N : calculus.Instanced) → (fitted N).fits ≡ within_limits N.clause
+fits_is : (N : calculus.Instanced) → is_some (fitted N) ≡ within_limits N.clause
 unfolding fitted
 fits_is N = go (within_limits N.clause)
   where
-    go : (b : Bool) → (cond b (record { fits = true; of = packed_instanced N }) too_large).fits ≡ b
+    go : (b : Bool) → is_some (cond b (std.Some (packed_instanced N)) std.None) ≡ b
     go true = refl
     go false = refl
 
-fitted_of : (N : calculus.Instanced) → within_limits N.clause ≡ true → (fitted N).of ≡ packed_instanced N
+fitted_of : (N : calculus.Instanced) (blank : Instanced) → within_limits N.clause ≡ true → unwrap_or (fitted N) blank ≡ packed_instanced N
 unfolding fitted
-fitted_of N e = rw e
+fitted_of N blank e = rw e
 
 reason_limited : (C : calculus.Clause) (i : ℕ) (τ : List ℕ) → Limited C → Limited (reason C i τ).of.clause
 unfolding reason
@@ -76,7 +75,7 @@ reason_limited C i τ l =
     let g = ground τ L in
     let N = merge (own_pairs τ g L C.literals) C.variables C.atoms (reason_literals τ g i C.literals) τ in
     let few : length (reason_literals τ g i C.literals) ≤ most_literals = omega (arith, ap (λ (ls : List Literal). length (reason_literals τ g i ls)) (take-length C.literals), stay_few τ g i C.literals (length C.literals), l.few_literals) in
-    limited_of N.clause (subst T (sym (sym (fits_is N) ∙ ap (λ (m : Merged). m.fits) (merge_limits (own_pairs τ g L C.literals) C.variables C.atoms (reason_literals τ g i C.literals) τ l.few_variables l.few_atoms few))) tt)
+    limited_of N.clause (subst T (sym (sym (fits_is N) ∙ ap is_some (merge_limits (own_pairs τ g L C.literals) C.variables C.atoms (reason_literals τ g i C.literals) τ l.few_variables l.few_atoms few))) tt)
 
 -- ---- the last entry
 
@@ -195,48 +194,46 @@ module _ {r : Run} {s : State} (R : RunOf r s) (k : Looked) (l : ℕ) where
             next-is : next s (Resolve l) ≡ updated s s.trail s.level (some M)
             next-is = ap (λ (o : Trail). updated s s.trail s.level (some (resolvent N (l - 1) (last_reason (clauses s) o).of (last_reason (clauses s) o).own))) split
 
-            module _ (m : Merged) (g : m ≡ resolved r.conflict (l - 1) (reason_of k.clause (E.number - 1) E.instance).of (reason_of k.clause (E.number - 1) E.instance).own) where
+            module _ (m : std.Option Instanced) (g : m ≡ resolved r.conflict (l - 1) (reason_of k.clause (E.number - 1) E.instance).of (reason_of k.clause (E.number - 1) E.instance).own) where
               merged-is : m ≡ fitted M
               merged-is = g ∙ ap (λ (w : reasons.Reason). resolved r.conflict (l - 1) w.of w.own) reason-is
                   ∙ ap (λ (n : Instanced). resolved n (l - 1) (packed_instanced W.of) W.own) (conflict_is R)
                   ∙ resolved_is N W.of (l - 1) W.own (fine_conflict R e).limited (fine_conflict R e).sized.size (reason_limited C (E.number - 1) τ ((fine R).limited C held)) W-sized.size
 
-              limits : {a : Bool} → m.fits ≡ a → within_limits (conflict_of (next s (Resolve l)).conflict).clause ≡ a
-              limits z = ap (λ (o : State). within_limits (conflict_of o.conflict).clause) next-is ∙ sym (fits_is M) ∙ ap (λ (w : Merged). w.fits) (sym merged-is) ∙ z
+              limits : {a : Bool} → is_some m ≡ a → within_limits (conflict_of (next s (Resolve l)).conflict).clause ≡ a
+              limits z = ap (λ (o : State). within_limits (conflict_of o.conflict).clause) next-is ∙ sym (fits_is M) ∙ ap is_some (sym merged-is) ∙ z
 
-              resolve-no-room : m.fits ≡ false → Told s (Resolve l) (refused_by r no_room)
+              resolve-no-room : is_some m ≡ false → Told s (Resolve l) (refused_by r no_room)
               resolve-no-room z = refused R (Resolve l) no_room tt tt (λ a. simp (stands_shown R e, exists h, last-is p, same d, limits z))
 
-              resolve-accepted : m.fits ≡ true → (w : Witness) → w ≡ packed_witness none → Told s (Resolve l) (taken_up r m.of w)
-              resolve-accepted z w w-is = accepted_as R (Resolve l) true (nothing_asked s (Resolve l) refl)
+              resolve-accepted : is_some m ≡ true → (of blank : Instanced) → of ≡ unwrap_or m blank → (w : Shown) → w ≡ packed_given none → Told s (Resolve l) (taken_up r of w)
+              resolve-accepted z of blank of-is w w-is = accepted_as R (Resolve l) true (nothing_asked s (Resolve l) refl)
                   (rw (stands_shown R e) tt, (rw (exists h) tt, (rw (last-is p) tt, (rw (same d) tt, (rw (limits z) tt, tt))))) (hands_none s (Resolve l) refl w-is)
-                  _ (with_conflict R m.of w M (ap (λ (w : Merged). w.of) merged-is ∙ fitted_of M (sym (fits_is M) ∙ ap (λ (w : Merged). w.fits) (sym merged-is) ∙ z)) ∙ ap packed_run (sym next-is))
+                  _ (with_conflict R of w M (of-is ∙ ap (λ o. unwrap_or o blank) merged-is ∙ fitted_of M blank (sym (fits_is M) ∙ ap is_some (sym merged-is) ∙ z)) ∙ ap packed_run (sym next-is))
 
   -- The last entry stands in slot j.
   module _ (handed : k ≡ looked_at s (Resolve l)) (j : ℕ) (j-is : j ≡ r.length - 1) (a b d : Bool) (a-is : a ≡ literal_exists (clause_of r.conflict.clause) l) (b-is : b ≡ is_propagated (get_or r.trail j past_end).kind)
-      (d-is : d ≡ same_literal (complement (get_or r.trail j past_end).literal) (literal_instance (instanced_of r.conflict) l)) (m : Merged)
+      (d-is : d ≡ same_literal (complement (get_or r.trail j past_end).literal) (literal_instance (instanced_of r.conflict) l)) (m : std.Option Instanced)
       (m-is : m ≡ resolved r.conflict (l - 1) (reason_of k.clause ((get_or r.trail j past_end).number - 1) (get_or r.trail j past_end).instance).of (reason_of k.clause ((get_or r.trail j past_end).number - 1) (get_or r.trail j past_end).instance).own)
-      {n n₁ n₂ n₃ n₄ n₅ : ℕ} (e₅ : n₅ ≡ cond m.fits 0 no_room) (e₄ : n₄ ≡ cond d n₅ wrong_literal) (e₃ : n₃ ≡ cond b n₄ no_entry) (e₂ : n₂ ≡ cond (ltb 0 r.length) n₃ no_entry) (e₁ : n₁ ≡ cond a n₂ no_such)
+      (of blank : Instanced) (of-is : of ≡ unwrap_or m blank)
+      {n n₁ n₂ n₃ n₄ n₅ : ℕ} (e₅ : n₅ ≡ cond (is_some m) 0 no_room) (e₄ : n₄ ≡ cond d n₅ wrong_literal) (e₃ : n₃ ≡ cond b n₄ no_entry) (e₂ : n₂ ≡ cond (ltb 0 r.length) n₃ no_entry) (e₁ : n₁ ≡ cond a n₂ no_such)
       (e₀ : n ≡ cond r.stands n₁ wrong_moment) where
-    resolve_refused : ¬ (n ≡ 0) → Told s (Resolve l) (refused_by r n)
+    pub resolve_refused : ¬ (n ≡ 0) → Told s (Resolve l) (refused_by r n)
     resolve_refused h =
         asked r.stands _ _ e₀ (λ f q. as_told q (resolve_no_conflict f)) (λ t₀ q₀.
         asked a _ _ e₁ (λ f q. as_told (q₀ ∙ q) (resolve_no_such t₀ (sym a-is ∙ f))) (λ t₁ q₁.
         asked (ltb 0 r.length) _ _ e₂ (λ f q. as_told (q₀ ∙ q₁ ∙ q) (resolve-no-entry t₀ (sym a-is ∙ t₁) (omega (arith, ltb-false 0 r.length f)))) (λ t₂ q₂.
         asked b _ _ e₃ (λ f q. as_told (q₀ ∙ q₁ ∙ q₂ ∙ q) (resolve-not-propagated t₀ (sym a-is ∙ t₁) (ltb-true 0 r.length t₂) j j-is (sym b-is ∙ f))) (λ t₃ q₃.
         asked d _ _ e₄ (λ f q. as_told (q₀ ∙ q₁ ∙ q₂ ∙ q₃ ∙ q) (resolve-not-complement t₀ (sym a-is ∙ t₁) (ltb-true 0 r.length t₂) j j-is (sym b-is ∙ t₃) (sym d-is ∙ f))) (λ t₄ q₄.
-        asked m.fits _ _ e₅ (λ f q. as_told (q₀ ∙ q₁ ∙ q₂ ∙ q₃ ∙ q₄ ∙ q) (resolve-no-room t₀ (sym a-is ∙ t₁) (ltb-true 0 r.length t₂) j j-is (sym b-is ∙ t₃) (sym d-is ∙ t₄) handed m m-is f))
+        asked (is_some m) _ _ e₅ (λ f q. as_told (q₀ ∙ q₁ ∙ q₂ ∙ q₃ ∙ q₄ ∙ q) (resolve-no-room t₀ (sym a-is ∙ t₁) (ltb-true 0 r.length t₂) j j-is (sym b-is ∙ t₃) (sym d-is ∙ t₄) handed m m-is f))
         (λ t₅ q₅. absurd (h (q₀ ∙ q₁ ∙ q₂ ∙ q₃ ∙ q₄ ∙ q₅))))))))
 
-    resolve_told : (w : Witness) → w ≡ packed_witness none → n ≡ 0 → Told s (Resolve l) (taken_up r m.of w)
+    pub resolve_told : (w : Shown) → w ≡ packed_given none → n ≡ 0 → Told s (Resolve l) (taken_up r of w)
     resolve_told w w-is o =
         let (t₀, z₁) = passed r.stands _ _ e₀ tt o in
         let (t₁, z₂) = passed a _ _ e₁ tt z₁ in
         let (t₂, z₃) = passed (ltb 0 r.length) _ _ e₂ tt z₂ in
         let (t₃, z₄) = passed b _ _ e₃ tt z₃ in
         let (t₄, z₅) = passed d _ _ e₄ tt z₄ in
-        let (t₅, z₆) = passed m.fits _ _ e₅ tt z₅ in
-        resolve-accepted t₀ (sym a-is ∙ t₁) (ltb-true 0 r.length t₂) j j-is (sym b-is ∙ t₃) (sym d-is ∙ t₄) handed m m-is t₅ w w-is
-
-    pub resolve_answered : {w : Witness} → w ≡ packed_witness none → {o : Stepped} → o ≡ cond (eqb n 0) (taken_up r m.of w) (cond (eqb n not_false) (refused_at r 0) (refused_by r n)) → Told s (Resolve l) o
-    resolve_answered {w} w-is e = either_told n e (resolve_told w w-is) (λ h. no_place (resolve_refused h))
+        let (t₅, z₆) = passed (is_some m) _ _ e₅ tt z₅ in
+        resolve-accepted t₀ (sym a-is ∙ t₁) (ltb-true 0 r.length t₂) j j-is (sym b-is ∙ t₃) (sym d-is ∙ t₄) handed m m-is t₅ of blank of-is w w-is

@@ -1,4 +1,5 @@
 -- A run record read as the state that it is the record of.
+use Rattle.std.specs.Prelude as std
 use mathlib.Core.Path.{◌∙◌, ◌≡◌, ap, refl, subst, sym}
 use mathlib.Core.List.{List, [], ◌∷◌}
 use mathlib.Core.Option.{Option, some}
@@ -6,15 +7,13 @@ use mathlib.Core.Bool.{Bool, ◌&&◌, false, true}
 use Prim.Native.Nat.{◌+◌, ◌-◌, ◌<◌, ◌≤◌, suc, zero, ℕ}
 use native.Mathlib.Omega.{arith}
 use lib.Dec.{T, leb, le→leb}
-use lib.ListN.{get_or, length, length-append}
+use lib.ListN.{get_or, length, length-append, take}
 use Rattle.basis.specs.Refusals.{accepted}
-use Rattle.basis.specs.declared.Witness.{Witness}
 use Rattle.basis.specs.Limits.{most_atoms, most_constants, most_entries, most_input, most_learned, most_literals, most_variables}
 use Rattle.lists.proofs.Tests.{T→eq, and_i}
 use Rattle.rules.specs.Answers.{Kept, RunOf}
-use Rattle.rules.specs.Records.{conflict_said, packed_run, taken_up}
+use Rattle.rules.specs.Records.{RunAnswer, Shown, conflict_said, packed_run, taken_up}
 use Rattle.rules.specs.declared.Run.{Run}
-use Rattle.rules.specs.declared.Stepped.{Stepped}
 use Rattle.calculus.proofs.Levels.{clause_held}
 use Rattle.calculus.specs.Class.{Limited, within_limits}
 use Rattle.calculus.specs.Tests.{clause_exists}
@@ -26,7 +25,7 @@ use Rattle.clauses.specs.declared.Clause.{Clause}
 use Rattle.clauses.specs.declared.Instanced.{Instanced}
 use Rattle.deciding.specs.Weighing.{PartsOf}
 use Rattle.reaching.proofs.Reached.{FineConflict, FineState, decisions_few, fine_short, no_conflict, reached_fine, some_conflict}
-use Rattle.trail.proofs.Stored.{packed_length, packed_stored, stored_length}
+use Rattle.trail.proofs.Stored.{packed_length, packed_stored, row_held, stored_length}
 use Rattle.trail.specs.Entries.{Stored, entry_of, past_end, trail_of}
 use Rattle.trail.specs.declared.Entry as entries
 use Rattle.calculus.specs.Clauses as calculus
@@ -90,14 +89,12 @@ module _ {r : Run} {s : State} (R : RunOf r s) where
   clause_says c k h e = ap clause_of e ∙ packed_says (clause_at (clauses s) c) (fine.limited (clause_at (clauses s) c) (clause_held (clauses s) c h))
 
 -- What Decide's weighing is shown
-pub shown : {r : Run} {s : State} → RunOf r s → PartsOf r.trail r.length r.constants r.input r.learned r.stands r.version s
-shown R = record {
+pub shown : {r : Run} {s : State} → RunOf r s → PartsOf (take r.length r.trail) r.constants (r.input + r.learned) r.stands r.version s
+shown {s = s} R = record {
   reached = R.reached;
-  trail_is = ap (λ (q : Run). q.trail) R.is;
-  count_is = ap (λ (q : Run). q.length) R.is;
+  trail_is = ap (λ (q : Run). take q.length q.trail) R.is ∙ row_held s.trail (fine R).few_entries;
   constants_is = constants_is R;
-  input_is = input_is R;
-  learned_is = learned_is R;
+  clauses_is = clauses_is R;
   stands_is = stands_is R;
   version_is = version_is R;
 }
@@ -111,8 +108,8 @@ abbrev pub restored : Run → List entries.Entry → Run
 restored r es = remade r r.constants r.level r.length es r.conflict
 
 -- Accepted, with the next run q and nothing learned; w is handed on.
-abbrev pub accepting : Run → Witness → Stepped
-accepting q w = record { run = q; number = accepted; place = 0; learned = 0; witness = w }
+abbrev pub accepting : Run → Shown → RunAnswer
+accepting q w = record { run = q; number = accepted; place = 0; learned = std.None; witness = w }
 
 -- A run record that is that of a state, part by part
 pub packed_as : {q : Run} (s : State) → q.version ≡ s.version → q.constants ≡ s.constants → q.input ≡ length s.input → q.learned ≡ length s.learned → q.level ≡ s.level → q.stands ≡ stands s.conflict
@@ -150,7 +147,7 @@ split_last es (suc n) h = let e : n ≡ suc n - 1 = omega arith in ap (λ (k : �
 
 module _ {r : Run} {s : State} (R : RunOf r s) where
   -- A state with another conflict
-  pub with_conflict : (n : Instanced) (w : Witness) (N : calculus.Instanced) → n ≡ packed_instanced N → (taken_up r n w).run ≡ packed_run (updated s s.trail s.level (some N))
+  pub with_conflict : (n : Instanced) (w : Shown) (N : calculus.Instanced) → n ≡ packed_instanced N → (taken_up r n w).run ≡ packed_run (updated s s.trail s.level (some N))
   with_conflict n w N h = packed_as (updated s s.trail s.level (some N)) (version_is R) (constants_is R) (input_is R) (learned_is R) (level_is R) refl (stored R) h
 
 -- ---- what a run shows

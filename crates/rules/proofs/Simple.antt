@@ -1,4 +1,5 @@
 -- The rules that test no atoms and look at no clause: Grow, Skip, Factorize. Each answer in terms of what the code has seen of the run.
+use Rattle.std.specs.Prelude as std
 use mathlib.Core.Path.{◌∙◌, ◌≡◌, ap, refl, subst, sym}
 use mathlib.Core.List.{List, [], ◌∷◌}
 use mathlib.Core.Option.{Option, none}
@@ -9,12 +10,10 @@ use lib.Dec.{eqb, leb, le→leb, ltb}
 use lib.ListN.{get_or, length, set}
 use borrow.Author.Tests.{le-leb, leb-false, leb-true, lt-leb, ltb-false, ltb-true, not-false, not-true}
 use Rattle.basis.specs.Limits.{most_constants}
-use Rattle.basis.specs.Refusals.{no_entry, no_room, no_such, not_false, wrong_literal, wrong_moment}
-use Rattle.basis.specs.declared.Witness.{Witness}
+use Rattle.basis.specs.Refusals.{no_entry, no_room, no_such, wrong_literal, wrong_moment}
 use Rattle.rules.specs.Answers.{RunOf, Told}
-use Rattle.rules.specs.Records.{refused_at, refused_by, taken_up}
+use Rattle.rules.specs.Records.{Shown, refused_by, taken_up}
 use Rattle.rules.specs.declared.Run.{Run}
-use Rattle.rules.specs.declared.Stepped.{Stepped}
 use Rattle.calculus.proofs.Class.{factored_limited}
 use Rattle.calculus.specs.Class.{Limited}
 use Rattle.calculus.specs.Clauses.{same_literal}
@@ -27,18 +26,18 @@ use Rattle.clauses.proofs.Records.{packed_instanced_says}
 use Rattle.clauses.specs.Records.{instanced_of, packed_instanced}
 use Rattle.clauses.specs.declared.Instanced.{Instanced}
 use Rattle.joining.specs.Fitted.{fitted}
-use Rattle.joining.specs.declared.Merged.{Merged}
+use Rattle.std.specs.Option.{unwrap_or}
 use Rattle.merging.specs.Results.{factorized}
 use Rattle.rules.proofs.Runs.{accepting, conflict_is, conflict_says, constants_is, fine, fine_conflict, input_is, last_shown, learned_is, level_is, none_shown, packed_as, remade, stands_is, stands_shown, stored, version_is, with_conflict, within}
 use Rattle.reaching.proofs.Handing.{hands_none, nothing_asked}
 use Rattle.reaching.proofs.Reached.{no_conflict}
-use Rattle.rules.proofs.Asking.{as_told, asked, either_told, no_place, passed}
+use Rattle.rules.proofs.Asking.{as_told, asked, passed}
 use Rattle.rules.proofs.Told.{accepted_as, refused}
 use Rattle.trail.proofs.Stored.{dropped, stored_none, stored_own}
 use Rattle.trail.specs.Entries.{Stored, blank_entry, entry_of, packed_trail, past_end, trail_of}
 use Rattle.trail.specs.declared.Entry as entries
 use Rattle.calculus.specs.Clauses as calculus
-use Rattle.constraint.specs.Witnesses.{packed_witness}
+use Rattle.constraint.specs.Witnesses.{packed_given}
 
 -- ---- Grow
 
@@ -53,7 +52,7 @@ module _ {r : Run} {s : State} (R : RunOf r s) (n : ℕ) where
     grow_no_room : 1 ≤ n → most_constants < r.constants + n → Told s (Grow n) (refused_by r no_room)
     grow_no_room h f = refused R (Grow n) no_room tt tt (λ a. simp (stands_shown R e, le-leb 1 n h, lt-leb (s.constants + n) most_constants (omega (arith, constants_is R))))
 
-    pub grow_accepted : 1 ≤ n → r.constants + n ≤ most_constants → (es : List entries.Entry) → es ≡ packed_trail [] → (w : Witness) → w ≡ packed_witness none
+    pub grow_accepted : 1 ≤ n → r.constants + n ≤ most_constants → (es : List entries.Entry) → es ≡ packed_trail [] → (w : Shown) → w ≡ packed_given none
         → Told s (Grow n) (accepting (remade r (r.constants + n) 0 0 es r.conflict) w)
     grow_accepted h f es b w w-is = let free = stands_shown R e in accepted_as R (Grow n) true (nothing_asked s (Grow n) refl)
         (rw free tt, (le→leb 1 n h, (le→leb (s.constants + n) most_constants (omega (arith, constants_is R, (fine R).few_constants)), tt))) (hands_none s (Grow n) refl w-is)
@@ -105,7 +104,7 @@ module _ {r : Run} {s : State} (R : RunOf r s) where
       skip-complement z = refused R Skip wrong_literal tt tt (λ a. simp (stands_shown R e, last, in-conflict z))
 
       pub skip-accepted : complement_in_conflict (instanced_of r.conflict) (entry_of E ∷ []) ≡ false → (m : ℕ) → m ≡ cond (is_decision (entry_of E)) (r.level - 1) r.level → (b : entries.Entry) → b ≡ blank_entry
-          → (w : Witness) → w ≡ packed_witness none → Told s Skip (accepting (remade r r.constants m i (set r.trail i b) r.conflict) w)
+          → (w : Shown) → w ≡ packed_given none → Told s Skip (accepting (remade r r.constants m i (set r.trail i b) r.conflict) w)
       skip-accepted z m j b b-is w w-is = accepted_as R Skip true (nothing_asked s Skip refl)
           (rw (stands_shown R e) tt, (rw last tt, (rw last (rw (in-conflict z) tt), tt))) (hands_none s Skip refl w-is)
           _ (packed_as (next s Skip) (version_is R) (constants_is R) (input_is R) (learned_is R) level (stands_is R) rest (conflict_is R))
@@ -136,7 +135,7 @@ module _ {r : Run} {s : State} (R : RunOf r s) where
 -- ---- Factorize
 
 -- The factored conflict is no larger, so there is room for it.
-factorized_is : (N : calculus.Instanced) (i j : ℕ) → Limited N.clause → length N.instance ≡ N.clause.variables → factorized (packed_instanced N) i j ≡ record { fits = true; of = packed_instanced (factored N i j) }
+factorized_is : (N : calculus.Instanced) (i j : ℕ) → Limited N.clause → length N.instance ≡ N.clause.variables → factorized (packed_instanced N) i j ≡ std.Some (packed_instanced (factored N i j))
 unfolding factorized fitted
 factorized_is N i j l e = simp (packed_instanced_says N l e, within N.clause l, within (factored N i j).clause (factored_limited N i j l))
 
@@ -162,30 +161,27 @@ module _ {r : Run} {s : State} (R : RunOf r s) (i j : ℕ) where
       factorize-differ : Same i j (instanced_of r.conflict) ≡ false → Told s (Factorize i j) (refused_by r wrong_literal)
       factorize-differ f = refused R (Factorize i j) wrong_literal tt tt (λ a. simp (stands_shown R e, shown (Two i j) h, shown (Same i j) f))
 
-      factorize-accepted : Same i j (instanced_of r.conflict) ≡ true → (m : Merged) → m ≡ factorized r.conflict (i - 1) (j - 1)
-          → (w : Witness) → w ≡ packed_witness none → Told s (Factorize i j) (taken_up r m.of w)
-      factorize-accepted f m g w w-is = accepted_as R (Factorize i j) true (nothing_asked s (Factorize i j) refl)
+      pub factorize-accepted : Same i j (instanced_of r.conflict) ≡ true → (m : std.Option Instanced) → m ≡ factorized r.conflict (i - 1) (j - 1)
+          → (of blank : Instanced) → of ≡ unwrap_or m blank → (w : Shown) → w ≡ packed_given none → Told s (Factorize i j) (taken_up r of w)
+      factorize-accepted f m g of blank of-is w w-is = accepted_as R (Factorize i j) true (nothing_asked s (Factorize i j) refl)
           (rw (stands_shown R e) tt, (rw (shown (Two i j) h) tt, (rw (shown (Same i j) f) tt, tt))) (hands_none s (Factorize i j) refl w-is)
-          _ (with_conflict R m.of w (factored (conflict_of s.conflict) (i - 1) (j - 1)) (ap (λ (w : Merged). w.of) is))
+          _ (with_conflict R of w (factored (conflict_of s.conflict) (i - 1) (j - 1)) (of-is ∙ ap (λ o. unwrap_or o blank) is))
         where
-          is : m ≡ record { fits = true; of = packed_instanced (factored (conflict_of s.conflict) (i - 1) (j - 1)) }
+          is : m ≡ std.Some (packed_instanced (factored (conflict_of s.conflict) (i - 1) (j - 1)))
           is = g ∙ ap (λ (n : Instanced). factorized n (i - 1) (j - 1)) (conflict_is R) ∙ factorized_is (conflict_of s.conflict) (i - 1) (j - 1) (fine_conflict R e).limited (fine_conflict R e).sized.size
 
   module _ (a b : Bool) (a-is : a ≡ Two i j (instanced_of r.conflict)) (b-is : b ≡ Same i j (instanced_of r.conflict)) {k k₁ k₂ : ℕ}
       (e₂ : k₂ ≡ cond b 0 wrong_literal) (e₁ : k₁ ≡ cond a k₂ no_such) (e₀ : k ≡ cond r.stands k₁ wrong_moment) where
-    factorize_refused : ¬ (k ≡ 0) → Told s (Factorize i j) (refused_by r k)
+    pub factorize_refused : ¬ (k ≡ 0) → Told s (Factorize i j) (refused_by r k)
     factorize_refused h =
         asked r.stands _ _ e₀ (λ f q. as_told q (factorize_no_conflict f)) (λ t₀ q₀.
         asked a _ _ e₁ (λ f q. as_told (q₀ ∙ q) (factorize_no_such t₀ (sym a-is ∙ f))) (λ t₁ q₁.
         asked b _ _ e₂ (λ f q. as_told (q₀ ∙ q₁ ∙ q) (factorize-differ t₀ (sym a-is ∙ t₁) (sym b-is ∙ f)))
         (λ t₂ q₂. absurd (h (q₀ ∙ q₁ ∙ q₂)))))
 
-    factorize_passed : k ≡ 0 → (r.stands ≡ true) × (Two i j (instanced_of r.conflict) ≡ true) × (Same i j (instanced_of r.conflict) ≡ true)
+    pub factorize_passed : k ≡ 0 → (r.stands ≡ true) × (Two i j (instanced_of r.conflict) ≡ true) × (Same i j (instanced_of r.conflict) ≡ true)
     factorize_passed o =
         let (t₀, z₁) = passed r.stands _ _ e₀ tt o in
         let (t₁, z₂) = passed a _ _ e₁ tt z₁ in
         let (t₂, z₃) = passed b _ _ e₂ tt z₂ in
         (t₀, sym a-is ∙ t₁, sym b-is ∙ t₂)
-
-    pub factorize_answered : (m : Merged) → m ≡ factorized r.conflict (i - 1) (j - 1) → {w : Witness} → w ≡ packed_witness none → {o : Stepped} → o ≡ cond (eqb k 0) (taken_up r m.of w) (cond (eqb k not_false) (refused_at r 0) (refused_by r k)) → Told s (Factorize i j) o
-    factorize_answered m g {w} w-is e = either_told k e (λ z. let (t₀, t₁, t₂) = factorize_passed z in factorize-accepted t₀ t₁ t₂ m g w w-is) (λ h. no_place (factorize_refused h))

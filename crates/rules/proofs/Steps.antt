@@ -6,11 +6,10 @@ use Rattle.asking.specs.declared.Step as steps
 use Rattle.rules.proofs.Told.{refused}
 use Rattle.basis.specs.Refusals.{unknown_rule}
 use Rattle.rules.specs.Answers.{Answered, Answers, Handed}
-use Rattle.rules.specs.Records.{refused_by}
+use Rattle.rules.specs.Records.{RunAnswer, refused_by}
 use Rattle.asking.specs.Steps.{decide_of, instance_of, step_of}
 use Rattle.asking.specs.declared.Looked.{Looked}
 use Rattle.rules.specs.declared.Run.{Run}
-use Rattle.rules.specs.declared.Stepped.{Stepped}
 use Rattle.calculus.specs.States.{Backtrack, Conflict, Factorize, Grow, Propagate, Resolve, Skip, Step, Unknown}
 
 -- ---- by the rule number
@@ -49,10 +48,10 @@ module _ {r : Run} {k : Looked} where
   handed_as e h = subst (Handed r k) e h
 
   -- What the rule of a step answers is the answer to the step.
-  pub answered_as : {x y : Step} {a b : Stepped} → x ≡ y → a ≡ b → Answered r k y b → Answered r k x a
+  pub answered_as : {x y : Step} {a b : RunAnswer} → x ≡ y → a ≡ b → Answered r k y b → Answered r k x a
   answered_as e q h = transport⁻¹ (λ i. Answered r k (e i) (q i)) h
 
-  pub answers_as : {x y : Step} {a b : Stepped} → x ≡ y → a ≡ b → Answers r y b → Answered r k x a
+  pub answers_as : {x y : Step} {a b : RunAnswer} → x ≡ y → a ≡ b → Answers r y b → Answered r k x a
   answers_as e q h = answered_as e q (λ s R looks. h s R)
 
 -- "Unknown rule" is refused by 7.

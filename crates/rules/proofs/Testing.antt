@@ -1,14 +1,16 @@
 -- What the constraint test says of a rule's question.
-use mathlib.Core.Path.{◌∙◌, ◌≡◌, refl, subst, sym, transport}
+use Rattle.std.specs.Prelude as std
+use Rattle.std.specs.Option.{is_some}
+use Rattle.rules.specs.Records.{Shown}
+use Rattle.std.proofs.Common.{true≢false}
+use mathlib.Core.Path.{ap, ◌∙◌, ◌≡◌, refl, subst, sym, transport}
 use mathlib.Core.Logic.{◌↔◌}
 use mathlib.Core.List.{List, ◌++◌}
 use mathlib.Core.Bool.{true}
-use Prim.Native.Nat.{◌+◌, ◌<◌, ℕ}
-use native.Mathlib.Omega.{arith}
+use Prim.Native.Nat.{◌+◌, ℕ}
 use lib.Dec.{T}
 use Rattle.basis.specs.Atoms.{Possible}
 use Rattle.basis.specs.declared.Atom.{Atom}
-use Rattle.basis.specs.declared.Witness.{Witness}
 use Rattle.basis.specs.Numbers.{whole}
 use Rattle.rules.specs.Answers.{RunOf}
 use Rattle.rules.specs.declared.Run.{Run}
@@ -32,18 +34,19 @@ use Rattle.trail.specs.Entries.{trail_of}
 use Rattle.calculus.specs.Clauses as calculus
 
 -- The test is put the question of the step x, and takes its atoms: so its yes decides what is asked, and with it come the numbers that are handed on.
-module _ {r : Run} {s : State} (R : RunOf r s) (x : Step) {az : List Atom} {b : Witness} (d : WitnessOf r.constants az b) (together : az ≡ question s x) where
+module _ {r : Run} {s : State} (R : RunOf r s) (x : Step) {az : List Atom} {b : Shown} (d : WitnessOf r.constants az b) (together : az ≡ question s x) where
   said : WitnessOf s.constants (question s x) b
   said = transport (λ i. WitnessOf (constants_is R i) (together i) b) d
 
-  pub decides : AllProper s.constants (question s x) → T b.given ↔ Possible whole s.constants (question s x)
+  pub decides : AllProper s.constants (question s x) → T (is_some b) ↔ Possible whole s.constants (question s x)
   decides h = ((λ z. (said.says.0 z).1), λ P. said.says.1 (record { few_constants = (fine R).few_constants; proper = h }, P))
 
-  pub hands : tests x ≡ true → b.given ≡ true → HandsBy s x b
-  hands t e = hands_shown s x t b e (said.shown (subst T (sym e) tt))
-
-pub not_zero : {p : ℕ} → 0 < p → ¬ (p ≡ 0)
-not_zero h e = absurd (omega arith)
+  pub hands : tests x ≡ true → is_some b ≡ true → HandsBy s x b
+  hands t e = by b refl
+    where
+      by : (c : Shown) → b ≡ c → HandsBy s x b
+      by std.None q = absurd (true≢false (sym e ∙ ap is_some q))
+      by (std.Some numbers) q = subst (HandsBy s x) (sym q) (hands_shown s x t numbers (said.shown numbers q))
 
 -- A clause is named and its instance fits; the facts the code has of the handed clause and the array carry over to the state.
 module _ {r : Run} {s : State} (R : RunOf r s) (k : Clause) (c : ℕ) (looks : T (clause_exists (clauses s) c) → k ≡ packed (clause_at (clauses s) c)) (e : between 1 (r.input + r.learned) c ≡ true) where

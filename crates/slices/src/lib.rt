@@ -1,16 +1,18 @@
-// Lent slices read at any place: what stands there, or 0 past the end.
+// Lent slices read at any place: what stands there, or another value past the end; and what stands before a place.
 #![tactic(auto)]
 
-ghost use Rattle.std.specs.Prelude.{◌≡◌, get_or, pos};
+ghost use Rattle.std.specs.Prelude.{◌≡◌, ◌≤◌, get_or, length, take};
 
-pub fn byte_at(s: &[u8], k: usize) -> u8
-    ensures { result ≡ get_or s.now k 0 }
+pub fn at_or<T: Copy>(s: &[T], k: usize, past: T) -> T
+    ensures { result ≡ get_or s.now k past }
 {
-    if k < s.len() { s[k] } else { 0 }
+    s.get(k).copied().unwrap_or(past)
 }
 
-pub fn word_at(words: &[i32], k: usize) -> i32
-    ensures { result ≡ get_or words.now k (pos 0) }
+// The first `count` elements, or all
+pub fn prefix<T: Copy>(s: &[T], count: usize) -> &[T]
+    ensures first { result.now ≡ take count s.now }
+    ensures few { length result.now ≤ length s.now }
 {
-    if k < words.len() { words[k] } else { 0 }
+    &s[..count.min(s.len())]
 }

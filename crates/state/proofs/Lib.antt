@@ -1,4 +1,5 @@
 -- Why a run of the code is a run of the calculus.
+pub mod Ruled
 pub mod Runs
 pub mod Table
 pub mod Opening

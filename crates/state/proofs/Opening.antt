@@ -1,23 +1,25 @@
 -- What admission hands back is the record of an admitted state.
-use mathlib.Core.Path.{◌∙◌, ◌≡◌, ap, refl, sym}
+use mathlib.Core.Path.{◌∙◌, ◌≡◌, ap, ap₂, refl, sym}
 use mathlib.Core.List.Memᴰ
-use mathlib.Core.List.{List, [], ◌++◌, append-nil, map}
-use mathlib.Core.Bool.{Bool, cond}
-use Prim.Native.Nat.{◌≤◌, ℕ}
+use mathlib.Core.List.{List, [], ◌∷◌, ◌++◌, append-nil, map}
+use mathlib.Core.Bool.{Bool, cond, false, true}
+use Prim.Native.Nat.{◌≤◌, suc, zero, ℕ}
 use native.Mathlib.Decide.{ℕ_discrete}
 use native.Mathlib.Omega.{arith}
 use lib.Dec.{eqb}
-use lib.ListN.{length, length-map}
-use borrow.Author.Tests.{eq-eqb, ne_eqb}
+use lib.ListN.{drop, length, length-map, replicate, take}
+use borrow.Author.Tests.{eq-eqb, eqb-false, ne_eqb}
 use Rattle.admission.specs.Offered as admission
-use Rattle.admission.specs.declared.TableAnswer.{TableAnswer}
+use Rattle.admission.proofs.Tables.{handed_err, handed_ok}
+use Rattle.std.proofs.Common.{Ok, Err}
 use Rattle.basis.specs.Limits.{most_clauses, most_input, most_predicates}
 use Rattle.basis.specs.Refusals.{above_limit, accepted, lacks_bound}
 use Rattle.basis.specs.declared.Version.{Version}
 use Rattle.basis.specs.declared.Version.TheVariants.{One}
 use Rattle.lists.specs.Arrays.{exactly}
-use Rattle.lists.proofs.Arrays.{exactly_again, exactly_length}
-use Rattle.calculus.specs.Admission.{Admitted, Refused, admission_refusal, fresh}
+use Rattle.lists.proofs.Arrays.{exactly_none, take_exactly}
+use Rattle.calculus.specs.Admission.{Admitted, Refused, admission_refusal, clauses_refusal, counts_fit, fresh}
+use Rattle.calculus.specs.Class.{clause_refusal}
 use Rattle.calculus.specs.Admitting.{AdmissionJudged, ClauseJudged, by_above_limit, bad_clause, counts, fine, by_lacks_bound, by_occurs_nowhere, by_out_of_range}
 use Rattle.calculus.specs.Clauses as calculus
 use Rattle.calculus.proofs.Admitting.{admission_refused_rightly, admitted_exactly, clause_refused_rightly}
@@ -32,21 +34,24 @@ use Rattle.state.specs.declared.Opened.{Opened}
 use Rattle.state.specs.declared.State.{State}
 
 -- The record of a state in which nothing has been done, part by part
-pub new_is : (version : Version) (constants count : ℕ) (arities : List ℕ) (table : List Clause)
-    → IsNew version constants arities count table (record { run = new_run version constants count; predicates = length arities; arities = exactly most_predicates 0 arities; table = exactly most_clauses (packed calculus.no_clause) table })
+pub new_is : (version : Version) (constants : ℕ) (arities : List ℕ) (ks : List Clause)
+    → IsNew version constants arities ks (record { run = new_run version constants (length ks); predicates = length arities; arities = exactly most_predicates 0 arities; table = exactly most_clauses (packed calculus.no_clause) ks })
 unfolding packed_table
-new_is version constants count arities table cs e n h =
-    λ i. record { run = new_run version constants (n i); predicates = length arities; arities = exactly most_predicates 0 arities; table = held i }
+new_is version constants arities ks cs e =
+    λ i. record { run = new_run version constants (counted i); predicates = length arities; arities = exactly most_predicates 0 arities; table = exactly most_clauses (packed calculus.no_clause) (held i) }
   where
-    blank : Clause
-    blank = packed calculus.no_clause
+    held : ks ≡ map packed (cs ++ [])
+    held = e ∙ ap (map packed) (sym (append-nil cs))
 
-    held : exactly most_clauses (packed calculus.no_clause) table ≡ packed_table (cs ++ [])
-    held = ap (exactly most_clauses blank) e ∙ exactly_again blank most_clauses most_input (map packed cs) (omega (arith, length-map cs packed)) ∙ ap (λ (l : List calculus.Clause). exactly most_clauses blank (map packed l)) (sym (append-nil cs))
+    counted : length ks ≡ length cs
+    counted = ap length e ∙ length-map cs packed
 
--- As many clauses are read as are counted.
-pub offered_count : (arities : List ℕ) (count : ℕ) (l : List Clause) → count ≡ length (admission.offered_table arities count l)
-offered_count arities count l = sym (length-map (exactly count (packed calculus.no_clause) l) (admission.offered arities) ∙ exactly_length (packed calculus.no_clause) count l)
+-- What is put at the front of blanks
+pub front_of : {A : Type 0} (d : A) (n : ℕ) (ys : List A) → length ys ≤ n → ys ++ drop (length ys) (replicate n d) ≡ exactly n d ys
+unfolding exactly
+front_of d n [] h = sym (exactly_none d n)
+front_of d zero (y ∷ ys) h = absurd (omega arith)
+front_of {A} d (suc n) (y ∷ ys) h = ap {B = List A} (λ r. y ∷ r) (front_of d n ys (omega arith))
 
 -- ---- the answer
 
@@ -57,37 +62,59 @@ made_accepted n version constants arities cs h = ap (λ (b : Bool). cond b (fres
 made_refused : (n : ℕ) (version : Version) (constants : ℕ) (arities : List ℕ) (cs : List calculus.Clause) → ¬ (n ≡ accepted) → made_of n version constants arities cs ≡ fresh One 0 [] []
 made_refused n version constants arities cs h = ap (λ (b : Bool). cond b (fresh version constants arities cs) (fresh One 0 [] [])) (ne_eqb n accepted h)
 
-module _ (version : Version) (constants : ℕ) (arities : List ℕ) (cs : List calculus.Clause) {t : TableAnswer} (e : t ≡ admission.table_answer constants arities cs) where
-  number_is : t.number ≡ (admission_refusal constants arities cs).number
-  unfolding admission.answered
-  number_is = ap (λ (q : TableAnswer). q.number) e
+-- Where no clause is refused the place is 0.
+no_place : (A : List ℕ) (k : ℕ) (cs : List calculus.Clause) → (clauses_refusal A k cs).number ≡ accepted → (clauses_refusal A k cs).place ≡ 0
+no_place A k [] e = refl
+no_place A k (C ∷ cs) e = go (eqb (clause_refusal A C) accepted) refl e (no_place A (suc k) cs)
+  where
+    go : (b : Bool) → eqb (clause_refusal A C) accepted ≡ b → (cond b (clauses_refusal A (suc k) cs) (record { number = clause_refusal A C; place = k })).number ≡ accepted →
+        ((clauses_refusal A (suc k) cs).number ≡ accepted → (clauses_refusal A (suc k) cs).place ≡ 0) → (cond b (clauses_refusal A (suc k) cs) (record { number = clause_refusal A C; place = k })).place ≡ 0
+    go true t e ih = ih e
+    go false t e ih = absurd (eqb-false (clause_refusal A C) accepted t e)
 
-  pub admitted : t.number ≡ accepted → Admitted (fresh version constants arities cs)
-  admitted h = (admitted_exactly version constants arities cs).0 (sym number_is ∙ h)
-
-  -- The table that is handed back, by whether there is a refusal
-  clauses_are : t.clauses ≡ cond (eqb t.number accepted) (admission.packed_input cs) (admission.packed_input [])
-  unfolding admission.answered
-  clauses_are = ap (λ (q : TableAnswer). q.clauses) e ∙ ap (λ (n : ℕ). cond (eqb n accepted) (admission.packed_input cs) (admission.packed_input [])) (sym number_is)
+module _ (version : Version) (constants : ℕ) (arities : List ℕ) (cs : List calculus.Clause) where
+  abbrev refusal : Refused
+  refusal = admission_refusal constants arities cs
 
   -- A record whose state is that of the refusal's number
-  opens : (r : State) → r ≡ packed_state (made_of t.number version constants arities cs) → ◌≡◌ {A = Opened} (record { state = r; number = t.number; place = t.place }) (opened version constants arities cs)
-  unfolding opened admission.answered
-  opens r is = λ i. record { state = (is ∙ ap (λ (n : ℕ). packed_state (made_of n version constants arities cs)) number_is) i; number = number_is i; place = (e i).place }
+  opens : (n p : ℕ) (r : State) → n ≡ refusal.number → p ≡ refusal.place → r ≡ packed_state (made_of n version constants arities cs) → ◌≡◌ {A = Opened} (record { state = r; number = n; place = p }) (opened version constants arities cs)
+  unfolding opened
+  opens n p r e q is = λ i. record { state = (is ∙ ap (λ (n : ℕ). packed_state (made_of n version constants arities cs)) e) i; number = e i; place = q i }
 
-  pub opens_accepted : t.number ≡ accepted → (count : ℕ) → count ≡ length cs → (r : State) → IsNew version constants arities count t.clauses r
-      → ◌≡◌ {A = Opened} (record { state = r; number = t.number; place = t.place }) (opened version constants arities cs)
-  opens_accepted h count n r new = opens r (new cs read n (omega (arith, (admitted h).few_clauses)) ∙ ap packed_state (sym (made_accepted t.number version constants arities cs h)))
-    where
-      read : t.clauses ≡ admission.packed_input cs
-      read = clauses_are ∙ ap (λ (b : Bool). cond b (admission.packed_input cs) (admission.packed_input [])) (eq-eqb t.number accepted h)
+  module _ (t : List Clause) (e : Ok t ≡ admission.table_answer constants arities cs) where
+    passed : (refusal.number ≡ accepted) × (t ≡ admission.packed_input cs)
+    unfolding admission.answered
+    passed = handed_ok (admission.packed_input cs) refusal.number refusal t _ refl e
 
-  pub opens_refused : ¬ (t.number ≡ accepted) → (r : State) → IsNew One 0 [] 0 t.clauses r
-      → ◌≡◌ {A = Opened} (record { state = r; number = t.number; place = t.place }) (opened version constants arities cs)
-  opens_refused h r new = opens r (new [] blank refl (omega arith) ∙ ap packed_state (sym (made_refused t.number version constants arities cs h)))
-    where
-      blank : t.clauses ≡ admission.packed_input []
-      blank = clauses_are ∙ ap (λ (b : Bool). cond b (admission.packed_input cs) (admission.packed_input [])) (ne_eqb t.number accepted h)
+    pub admitted : Admitted (fresh version constants arities cs)
+    admitted = (admitted_exactly version constants arities cs).0 passed.0
+
+    place_none : refusal.place ≡ 0
+    place_none = go (counts_fit constants arities cs) passed.0
+      where
+        go : (b : Bool) → (cond b (clauses_refusal arities 1 cs) (record { number = above_limit; place = 0 })).number ≡ accepted → (cond b (clauses_refusal arities 1 cs) (record { number = above_limit; place = 0 })).place ≡ 0
+        go true n = no_place arities 1 cs n
+        go false n = refl
+
+    -- The records are what stands before the blanks.
+    records : (count : ℕ) → count ≡ length cs → take count t ≡ map packed cs
+    records count n = ap₂ (λ (k : ℕ) (l : List Clause). take k l) (n ∙ sym (length-map cs packed)) passed.1
+        ∙ take_exactly (packed calculus.no_clause) most_input (map packed cs) (omega (arith, length-map cs packed, admitted.few_clauses))
+
+    pub records_long : (count : ℕ) → count ≡ length cs → length (take count t) ≡ count
+    records_long count n = ap length (records count n) ∙ length-map cs packed ∙ sym n
+
+    pub opens_accepted : (count : ℕ) → count ≡ length cs → (r : State) → IsNew version constants arities (take count t) r → ◌≡◌ {A = Opened} (record { state = r; number = accepted; place = 0 }) (opened version constants arities cs)
+    opens_accepted count n r new = opens accepted 0 r (sym passed.0) (sym place_none) (new cs (records count n) ∙ ap packed_state (sym (made_accepted accepted version constants arities cs refl)))
+
+  pub opens_refused : (n p : ℕ) → Err (record { number = n; place = p }) ≡ admission.table_answer constants arities cs → (r : State) → r ≡ packed_state (fresh One 0 [] [])
+      → ◌≡◌ {A = Opened} (record { state = r; number = n; place = p }) (opened version constants arities cs)
+  unfolding admission.answered
+  opens_refused n p e r new =
+      let (bad, is) = handed_err (admission.packed_input cs) refusal.number refusal (record { number = n; place = p }) _ refl e in
+      let number = ap (λ (q : Refused). q.number) is in
+      opens n p r number (ap (λ (q : Refused). q.place) is)
+      (new ∙ ap packed_state (sym (made_refused n version constants arities cs (λ z. bad (sym number ∙ z)))))
 
 -- ---- what `step` takes for granted
 

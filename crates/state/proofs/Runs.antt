@@ -1,4 +1,5 @@
 -- Any run of the code is a run of the calculus; every step has an answer, and one only; and the numbers that it hands on can be checked by hand.
+use Rattle.state.proofs.Table.{none_some, some_same}
 use mathlib.Core.Path.{◌≡◌, refl, subst, sym, ap, ap₂, ◌∙◌}
 use mathlib.Core.List.{List, map}
 use mathlib.Core.Option.{Option}
@@ -80,13 +81,11 @@ handed_as s x b h R j k = go (eqb b.number accepted && tests (step_of x)) refl k
         let placed = asked_placed s (step_of x) b R j (eqb-true b.number accepted (and_true (eqb b.number accepted) (tests (step_of x)) e).0) in
         subst (λ (o : Option (List ℤ)). HandedOn s x (packed_answer b o)) (sym is) (record {
           exactly_if = ((λ z. subst T (sym e) tt), λ z. tt);
-          checked = λ z. (numbers, refl, numbers_checked s.constants (question s (step_of x)) numbers placed these);
-          blank = λ n. absurd (n tt);
+          checked = λ slots e. (numbers, sym (some_same e), numbers_checked s.constants (question s (step_of x)) numbers placed these);
         })
     go false e is = subst (λ (o : Option (List ℤ)). HandedOn s x (packed_answer b o)) (sym is) (record {
       exactly_if = ((λ z. absurd z), λ z. absurd (subst T e z));
-      checked = λ z. absurd z;
-      blank = λ n. refl;
+      checked = λ slots e. none_some e;
     })
 
 pub step_hands_on : StepHandsOn

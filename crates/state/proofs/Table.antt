@@ -1,4 +1,8 @@
 -- The table of clauses: what a step looks at in it, and how a step changes it.
+use Rattle.std.specs.Prelude as std
+use Rattle.std.specs.Option.{is_some}
+use Rattle.std.proofs.Common.{true≢false}
+use Rattle.rules.specs.Records.{RunAnswer, learned_under}
 use mathlib.Core.Path.{◌≡◌, refl, sym, ap, subst, transport⁻¹, ◌∙◌}
 use mathlib.Core.List.{List, [], ◌∷◌, ◌++◌, map, append_assoc, map-append, reverse}
 use mathlib.Core.Logic.{◌⊎◌, inl, inr}
@@ -7,10 +11,10 @@ use mathlib.Core.Bool.{Bool, true, false, cond}
 use Prim.Native.Nat.{ℕ, zero, suc, ◌-◌, ◌≤◌, ◌<◌}
 use native.Mathlib.Decide.{ℕ_discrete, dec_lt}
 use native.Mathlib.Omega.{arith}
-use lib.Dec.{eqb, ltb}
+use lib.Dec.{eqb}
 use lib.IntN.{ℤ}
 use lib.ListN.{get_or-eq_default, get_or-map, length, get_or, set, length-append, length-map}
-use borrow.Author.Tests.{eq-eqb, le-leb, le-ltb, lt-leb, lt-ltb, ne_eqb}
+use borrow.Author.Tests.{eq-eqb, le-leb, lt-leb, ne_eqb}
 use Rattle.calculus.specs.Checks.{between}
 use Rattle.basis.specs.Limits.{most_clauses, most_entries, most_predicates}
 use Rattle.basis.specs.Numbers.{whole}
@@ -39,7 +43,6 @@ use Rattle.asking.specs.declared.Looked.{Looked}
 use Rattle.asking.specs.declared.Named.{Named}
 use Rattle.rules.specs.declared.Run.{Run}
 use Rattle.asking.specs.declared.Step.{Step}
-use Rattle.rules.specs.declared.Stepped.{Stepped}
 use Rattle.reaching.proofs.Reached.{reached_fine}
 use Rattle.rules.proofs.Runs.{conflict_is, fine, last_shown, none_shown, stored}
 use Rattle.rules.proofs.Steps.{propagate_step, decide_step, conflict_step, resolve_step, factorize_step, skip_step, backtrack_step, grow_step, unknown_step}
@@ -47,7 +50,7 @@ use Rattle.trail.specs.Entries.{blank_entry, entry_as, packed_entry, packed_trai
 use Rattle.trail.specs.declared.Kind.{Kind}
 use Rattle.trail.specs.declared.Kind.TheVariants.{Background, Brought, Propagated, Decided}
 use Rattle.trail.specs.declared.Entry as entries
-use Rattle.state.specs.States.{StateOf, packed_answer, packed_table, table_after}
+use Rattle.state.specs.States.{StateOf, packed_answer, packed_table, table_after, written}
 use Rattle.state.specs.declared.Answered as answers
 use Rattle.state.specs.declared.State.{State}
 
@@ -138,11 +141,11 @@ looks_at_lem {run} {s} {table} R is x {i} {c} {k} l e h q = q ∙ ap (λ (m : �
 -- ---- what a rule answers
 
 module _ {r : Run} {k : Looked} {n : Named} where
-  pub named_as : {x y : states.Step} {a b : Stepped} → x ≡ y → a ≡ b → AnsweredNamed r k n y b → AnsweredNamed r k n x a
+  pub named_as : {x y : states.Step} {a b : RunAnswer} → x ≡ y → a ≡ b → AnsweredNamed r k n y b → AnsweredNamed r k n x a
   named_as e q h = transport⁻¹ (λ i. AnsweredNamed r k n (e i) (q i)) h
 
   -- Of a rule that looks at no atoms, whatever they are
-  pub any_named : {x : states.Step} {a : Stepped} → Answered r k x a → AnsweredNamed r k n x a
+  pub any_named : {x : states.Step} {a : RunAnswer} → Answered r k x a → AnsweredNamed r k n x a
   any_named h = λ s R looks names. h s R looks
 
 -- ---- how a step changes it
@@ -169,13 +172,19 @@ table_more cs C h =
     ∙ ap (exactly most_clauses (packed calculus.no_clause)) (sym (map-append packed cs (C ∷ [])))
 
 -- What the owner of a table does with what was learned
-pub table_written : (table : List Clause) (r : Run) (a : Stepped) → 0 < a.learned → set table (a.learned - 1) r.conflict.clause ≡ table_after table r a
-table_written table r a h = sym (ap (λ (q : Bool). cond q (set table (a.learned - 1) r.conflict.clause) table) (lt-ltb 0 a.learned h))
+pub table_written : (table : List Clause) (r : Run) (a : RunAnswer) (n : ℕ) → a.learned ≡ std.Some n → set table (n - 1) r.conflict.clause ≡ table_after table r a
+table_written table r a n h = sym (ap (written table r.conflict.clause) h)
 
-pub table_left : (table : List Clause) (r : Run) (a : Stepped) → a.learned ≤ 0 → table ≡ table_after table r a
-table_left table r a h = sym (ap (λ (q : Bool). cond q (set table (a.learned - 1) r.conflict.clause) table) (le-ltb 0 a.learned h))
+pub table_left : (table : List Clause) (r : Run) (a : RunAnswer) → a.learned ≡ std.None → table ≡ table_after table r a
+table_left table r a h = sym (ap (written table r.conflict.clause) h)
 
-module _ {run : Run} {s : states.State} (R : RunOf run s) (y : states.Step) (a : Stepped) (told : Told s y a) where
+pub none_some : {A : Type 0} {n : A} {P : Type 0} → std.None ≡ std.Some n → P
+none_some e = absurd (true≢false (sym (ap is_some e)))
+
+pub some_same : {A : Type 0} {n m : A} → std.Some n ≡ std.Some m → n ≡ m
+some_same {n = n} e = ap (λ o. std.unwrap_or o n) e
+
+module _ {run : Run} {s : states.State} (R : RunOf run s) (y : states.Step) (a : RunAnswer) (told : Told s y a) where
   abbrev b : Answer
   b = told.0
 
@@ -183,22 +192,21 @@ module _ {run : Run} {s : states.State} (R : RunOf run s) (y : states.Step) (a :
   room : length (clauses b.state) ≤ most_clauses
   room = let f = reached_fine b.state (steps_keep_reached (plain whole) s y b R.reached told.2) in omega (arith, length-append b.state.input b.state.learned, f.few_input, f.few_learned)
 
-  learned_as : {n : ℕ} → n ≡ cond (eqb b.number accepted) (learns_at s y) 0 → a.learned ≡ n
-  learned_as e = ap (λ (q : Stepped). q.learned) told.4 ∙ sym e
+  learned_as : {n : std.Option ℕ} → n ≡ cond (eqb b.number accepted) (learned_under (learns_at s y)) std.None → a.learned ≡ n
+  learned_as e = ap (λ (q : RunAnswer). q.learned) told.4 ∙ sym e
 
   abbrev Changes : Type 0
-  Changes = (a.learned ≤ most_clauses) × ((table : List Clause) → table ≡ packed_table (clauses s) → table_after table run a ≡ packed_table (clauses b.state))
+  Changes = ((n : ℕ) → a.learned ≡ std.Some n → (1 ≤ n) × (n ≤ most_clauses)) × ((table : List Clause) → table ≡ packed_table (clauses s) → table_after table run a ≡ packed_table (clauses b.state))
 
   -- Nothing is learned ..
-  none : a.learned ≡ 0 → clauses b.state ≡ clauses s → Changes
-  none e same = (omega (arith, e), λ table is. ap (λ (n : ℕ). cond (ltb 0 n) (set table (n - 1) run.conflict.clause) table) e ∙ is ∙ ap packed_table (sym same))
+  none : a.learned ≡ std.None → clauses b.state ≡ clauses s → Changes
+  none e same = ((λ n h. none_some (sym e ∙ h)), λ table is. ap (written table run.conflict.clause) e ∙ is ∙ ap packed_table (sym same))
 
   -- .. or the conflict that stood.
-  one : a.learned ≡ suc (length (clauses s)) → clauses b.state ≡ clauses s ++ ((conflict_of s.conflict).clause ∷ []) → Changes
+  one : a.learned ≡ std.Some (suc (length (clauses s))) → clauses b.state ≡ clauses s ++ ((conflict_of s.conflict).clause ∷ []) → Changes
   one e more = (
-    omega (arith, e, fits),
-    λ table is. ap (λ (n : ℕ). cond (ltb 0 n) (set table (n - 1) run.conflict.clause) table) e
-        ∙ ap (λ (q : Bool). cond q (set table (suc (length (clauses s)) - 1) run.conflict.clause) table) (lt-ltb 0 (suc (length (clauses s))) (omega arith)) ∙ (λ i. set (is i) (slot i) (conflict_is R i).clause)
+    (λ n h. let same : n ≡ suc (length (clauses s)) = some_same (sym h ∙ e) in (omega arith, omega (arith, fits))),
+    λ table is. ap (written table run.conflict.clause) e ∙ (λ i. set (is i) (slot i) (conflict_is R i).clause)
         ∙ table_more (clauses s) (conflict_of s.conflict).clause fits ∙ ap packed_table (sym more),
   )
     where
@@ -214,12 +222,12 @@ module _ {run : Run} {s : states.State} (R : RunOf run s) (y : states.Step) (a :
     | no e ↦ none (learned_as (sym (rw (ne_eqb b.number accepted e)))) (ap clauses (told.2.handed_back e))
   ]
     where
-      went : b.state ≡ next s y → a.learned ≡ learns_at s y → ((learns_at s y ≡ 0) × (clauses (next s y) ≡ clauses s)) ⊎ ((learns_at s y ≡ suc (length (clauses s))) × (clauses (next s y) ≡ clauses s ++ ((conflict_of s.conflict).clause ∷ []))) → Changes
-      went is l (inl (n, same)) = none (l ∙ n) (ap clauses is ∙ same)
-      went is l (inr (n, more)) = one (l ∙ n) (ap clauses is ∙ more)
+      went : b.state ≡ next s y → a.learned ≡ learned_under (learns_at s y) → ((learns_at s y ≡ 0) × (clauses (next s y) ≡ clauses s)) ⊎ ((learns_at s y ≡ suc (length (clauses s))) × (clauses (next s y) ≡ clauses s ++ ((conflict_of s.conflict).clause ∷ []))) → Changes
+      went is l (inl (n, same)) = none (l ∙ ap learned_under n) (ap clauses is ∙ same)
+      went is l (inr (n, more)) = one (l ∙ ap learned_under n) (ap clauses is ∙ more)
 
   -- What is learned has a slot ..
-  pub slot_free : a.learned ≤ most_clauses
+  pub slot_free : (n : ℕ) → a.learned ≡ std.Some n → (1 ≤ n) × (n ≤ most_clauses)
   slot_free = changes.0
 
   -- .. and the table after the step is that of the next state.
@@ -236,7 +244,7 @@ module _ {r : State} {s : states.State} (S : StateOf r s) where
   table_is = ap (λ (q : State). q.table) S.is
 
   -- The next run with its table, beside predicates that no step changes
-  pub step_answers : (x : Step) (a : Stepped) (told : Told s (step_of x) a) (table : List Clause) → table ≡ table_after r.table r.run a
+  pub step_answers : (x : Step) (a : RunAnswer) (told : Told s (step_of x) a) (table : List Clause) → table ≡ table_after r.table r.run a
       → (c : Answer) × (h : Option (List ℤ)) × Judged whole s (step_of x) c × HandsOn s (step_of x) c.number h ×
       (◌≡◌ {A = answers.Answered}
       (record { state = record { run = a.run; predicates = r.predicates; arities = r.arities; table = table }; number = a.number; place = a.place; witness = a.witness })

@@ -1,8 +1,7 @@
 -- The record of a whole state, what admission makes and what a step answers.
 use Rattle.std.specs.Prelude.{◌≡◌, List, [], map, ◌↔◌, ◌&&◌, cond, false, ℕ, ◌-◌, ◌≤◌, T, eqb, ltb, ℤ, length, set}
 use Rattle.std.proofs.Math.Option.{Option}
-use Rattle.admission.specs.Offered as admission
-use Rattle.basis.specs.Limits.{most_clauses, most_input, most_predicates}
+use Rattle.basis.specs.Limits.{most_clauses, most_predicates}
 use Rattle.basis.specs.Numbers.{whole}
 use Rattle.basis.specs.Refusals.{accepted}
 use Rattle.basis.specs.declared.Version.{Version}
@@ -18,17 +17,18 @@ use Rattle.calculus.specs.States as states
 use Rattle.calculus.specs.States.{clauses}
 use Rattle.clauses.specs.Records.{packed, packed_instanced}
 use Rattle.clauses.specs.declared.Clause.{Clause}
-use Rattle.rules.specs.Records.{packed_run}
+use Rattle.rules.specs.Records.{RunAnswer, packed_run}
+use Rattle.std.specs.Option.{is_some}
+use Rattle.std.specs.Prelude as std
 use Rattle.asking.specs.Steps.{step_of}
 use Rattle.bounds.specs.Choices.{Checked}
 use Rattle.rules.specs.declared.Run.{Run}
 use Rattle.asking.specs.declared.Step.{Step}
-use Rattle.rules.specs.declared.Stepped.{Stepped}
 use Rattle.trail.specs.Entries.{packed_trail}
 use Rattle.state.specs.declared.State.{State}
 use Rattle.state.specs.declared.Answered.{Answered}
 use Rattle.state.specs.declared.Opened.{Opened}
-use Rattle.constraint.specs.Witnesses.{no_numbers, packed_numbers, packed_witness}
+use Rattle.constraint.specs.Witnesses.{packed_given, packed_numbers}
 
 -- The table of the input clauses and the learned ones after them, blank past them
 unfoldable pub packed_table : List calculus.Clause → List Clause
@@ -45,7 +45,7 @@ packed_state s = record {
 
 -- The record of an answer, with the numbers handed on
 abbrev pub packed_answer : Answer → Option (List ℤ) → Answered
-packed_answer a h = record { state = packed_state a.state; number = a.number; place = a.place; witness = packed_witness h }
+packed_answer a h = record { state = packed_state a.state; number = a.number; place = a.place; witness = packed_given h }
 
 -- A record is that of one state reached at most. Proved in proofs/Packing.antt.
 abbrev pub PackingInjective : Type 0
@@ -66,8 +66,8 @@ Answers r x a =
 
 -- ---- admission
 
--- "Only admission makes a state": of what it accepts, the state in which nothing has been done. "A refused file yields no state": the answer is a
--- struct, since no enum holds an array, and so some record stands beside a refusal. It is that of no clauses, no predicates and no constants, of version 1:
+-- "Only admission makes a state": of what it accepts, the state in which nothing has been done. "A refused file yields no state": beside
+-- a refusal stands the record of no clauses, no predicates and no constants, of version 1:
 -- nothing of what was offered is left in it.
 abbrev pub made_of : ℕ → Version → ℕ → List ℕ → List calculus.Clause → states.State
 made_of number version constants arities cs = cond (eqb number accepted) (fresh version constants arities cs) (fresh One 0 [] [])
@@ -92,9 +92,9 @@ new_run version constants input = record {
   conflict = packed_instanced calculus.no_instanced;
 }
 
--- r is the state in which nothing has been done, of the clauses that the table holds.
-abbrev pub IsNew : Version → ℕ → List ℕ → ℕ → List Clause → State → Type 0
-IsNew version constants arities count table r = (cs : List calculus.Clause) → table ≡ admission.packed_input cs → count ≡ length cs → count ≤ most_input → r ≡ packed_state (fresh version constants arities cs)
+-- r is the state in which nothing has been done, of the clauses whose records these are.
+abbrev pub IsNew : Version → ℕ → List ℕ → List Clause → State → Type 0
+IsNew version constants arities ks r = (cs : List calculus.Clause) → ks ≡ map packed cs → r ≡ packed_state (fresh version constants arities cs)
 
 -- What is accepted is admitted, and the state handed back is its record: what `step` takes for granted. Proved in proofs/Opening.antt.
 abbrev pub AdmitMakesStates : Type 0
@@ -108,8 +108,12 @@ AdmitKeeps = (version : Version) (constants : ℕ) (arities : List ℕ) (cs : Li
 -- ---- steps
 
 -- The table after a step of the run r: the conflict that stood is written under the number at which it was learned.
-abbrev pub table_after : List Clause → Run → Stepped → List Clause
-table_after table r a = cond (ltb 0 a.learned) (set table (a.learned - 1) r.conflict.clause) table
+abbrev pub written : List Clause → Clause → std.Option ℕ → List Clause
+written table k std.None = table
+written table k (std.Some n) = set table (n - 1) k
+
+abbrev pub table_after : List Clause → Run → RunAnswer → List Clause
+table_after table r a = written table r.conflict.clause a.learned
 
 -- Every step keeps what it takes for granted. Proved in proofs/Runs.antt.
 abbrev pub StepKeeps : Type 0
@@ -128,9 +132,8 @@ AnswerUnique = (r : State) (x : Step) (a b : Answered) → Made r → Answers r 
 -- Numbers are given exactly by an accepted step of a rule that tests, and then a reader can check them by hand: they keep the order and make every
 -- atom true that the rule asked about. Proved in proofs/Runs.antt.
 pub record HandedOn (s : states.State) (x : Step) (a : Answered) : Type 0 where
-  pub exactly_if : T a.witness.given ↔ T (eqb a.number accepted && tests (step_of x))
-  pub checked : T a.witness.given → (numbers : List ℤ) × (a.witness.numbers ≡ packed_numbers numbers) × Checked s.constants (question s (step_of x)) numbers
-  pub blank : ¬ T a.witness.given → a.witness.numbers ≡ no_numbers
+  pub exactly_if : T (is_some a.witness) ↔ T (eqb a.number accepted && tests (step_of x))
+  pub checked : (slots : List ℤ) → a.witness ≡ std.Some slots → (numbers : List ℤ) × (slots ≡ packed_numbers numbers) × Checked s.constants (question s (step_of x)) numbers
 
 abbrev pub StepHandsOn : Type 0
 StepHandsOn = (r : State) (s : states.State) (x : Step) (a : Answered) → StateOf r s → Answers r x a → HandedOn s x a

@@ -1,20 +1,20 @@
 // A state with its clauses: only admission makes it and only steps change it.
 #![tactic(auto)]
 
-ghost use Rattle.std.specs.Prelude.{◌≡◌, ◌≤◌};
-ghost use Rattle.basis.specs.Limits.{most_clauses, most_predicates};
+ghost use Rattle.std.specs.Prelude.{◌≡◌, ◌≤◌, length};
+ghost use Rattle.basis.specs.Limits.{most_clauses, most_input, most_predicates};
 ghost use Rattle.lists.specs.Arrays.{exactly};
 ghost use Rattle.calculus.specs.Clauses as calculus;
 ghost use Rattle.clauses.specs.Records.{packed};
-ghost use Rattle.admission.specs.Offered.{offered_arities, offered_table};
+ghost use Rattle.admission.specs.Offered.{offered_table};
 ghost use Rattle.state.specs.Runs.{start_again};
 ghost use Rattle.state.specs.States.{Answers, IsNew, Made, new_run, opened};
 
 use asking::{
-    Named, Step, also, count_looked, last_slot, looked_at, named_rightly, number_looked, slot_of,
+    Named, Step, count_looked, last_slot, looked_at, named_rightly, number_looked, slot_of,
     source_atom,
 };
-use basis::{MOST_BROUGHT, MOST_CLAUSES, MOST_INPUT, MOST_PREDICATES, Version, Witness};
+use basis::{MOST_BROUGHT, MOST_CLAUSES, MOST_PREDICATES, Numbers, Rule, Version};
 use clauses::{Clause, no_atom, no_clause, no_instanced};
 use rules::Run;
 use trail::empty_trail;
@@ -30,17 +30,18 @@ pub struct State {
 }
 
 // "hands a state back, with a number (0 for accepted) and a place"; and the numbers behind the yes of the step's constraint test, where it
-// was accepted and asked for one
+// was accepted and asked for one. No Result: `step_right` (`Demand1`) and `RightAnswer` (`Demand2`) read number and place, of a refused step the state
+// too.
 #[derive(Clone, Copy)]
 pub struct Answered {
     pub state: State,
     pub number: u8,
     pub place: u8,
-    pub witness: Witness,
+    pub witness: Option<Numbers>,
 }
 
-// What admission hands back: a state; or the refusal's number and place. "A refused file yields no state": no enum holds an array, so that some
-// record stands beside a refusal, and it is that of no clauses, no predicates and no constants.
+// What admission hands back: a state; or the refusal's number and place. "A refused file yields no state": what stands beside a refusal is the record
+// of no clauses, no predicates and no constants. No Result: the theorem AdmitKeeps speaks of the state beside a refusal.
 #[derive(Clone, Copy)]
 pub struct Opened {
     pub state: State,
@@ -69,88 +70,64 @@ pub fn new_run(version: Version, constants: u8, input: u8) -> Run
     }
 }
 
-// The first arities, blank from there on
-fn first_arities(predicates: u8, arities: [u8; MOST_PREDICATES]) -> [u8; MOST_PREDICATES]
-    requires { predicates ≤ most_predicates }
-    ensures { result ≡ exactly most_predicates 0 (offered_arities predicates arities) }
+// The arities, and blanks past them
+fn first_arities(arities: &[u8]) -> [u8; MOST_PREDICATES]
+    requires { length arities.now ≤ most_predicates }
+    ensures { result ≡ exactly most_predicates 0 arities.now }
 {
-    let n = predicates as usize;
-    let mut out = [0u8; MOST_PREDICATES];
-    let mut j: usize = 0;
-    while j < n {
-        out[j] = arities[j];
-        j += 1;
-    }
+    let mut out = [0; MOST_PREDICATES];
+    out[..arities.len()].copy_from_slice(arities);
     out
 }
 
 // The input clauses, and room for the learned ones
-fn with_room(clauses: [Clause; MOST_INPUT]) -> [Clause; MOST_CLAUSES]
-    ensures { result ≡ exactly most_clauses (packed calculus.no_clause) clauses }
+fn with_room(clauses: &[Clause]) -> [Clause; MOST_CLAUSES]
+    requires { length clauses.now ≤ most_clauses }
+    ensures { result ≡ exactly most_clauses (packed calculus.no_clause) clauses.now }
 {
-    let blank = no_clause();
-    let mut out = [blank; MOST_CLAUSES];
-    let mut j: usize = 0;
-    while j < MOST_INPUT {
-        let c = clauses[j];
-        out[j] = c;
-        j += 1;
-    }
+    let mut out = [no_clause(); MOST_CLAUSES];
+    out[..clauses.len()].copy_from_slice(clauses);
     out
 }
 
 // The state in which nothing has been done, of clauses that were read
-fn new_state(
-    version: Version,
-    constants: u8,
-    predicates: u8,
-    arities: [u8; MOST_PREDICATES],
-    count: u8,
-    clauses: [Clause; MOST_INPUT],
-) -> State
-    requires { predicates ≤ most_predicates }
-    ensures { IsNew version constants (offered_arities predicates arities) count clauses result }
+fn new_state(version: Version, constants: u8, arities: &[u8], clauses: &[Clause]) -> State
+    requires { (length arities.now ≤ most_predicates) × (length clauses.now ≤ most_input) }
+    ensures { IsNew version constants arities.now clauses.now result }
 {
-    let run = new_run(version, constants, count);
-    let first = first_arities(predicates, arities);
+    let run = new_run(version, constants, clauses.len() as u8);
+    let first = first_arities(arities);
     let table = with_room(clauses);
     State {
-        run: run,
-        predicates: predicates,
+        run,
+        predicates: arities.len() as u8,
         arities: first,
-        table: table,
+        table,
     }
 }
 
 // "Only admission makes a state", of the version that is offered: clause records offered without a file "meet 3 to 7 .. before anything else; the
 // place is then the number of the first bad clause, or 0 .. for counts and arities, which are judged first." A refused file yields no state.
-pub fn admit(
-    version: Version,
-    constants: u8,
-    predicates: u8,
-    arities: [u8; MOST_PREDICATES],
-    count: u8,
-    clauses: [Clause; MOST_INPUT],
-) -> Opened
-    ensures { result ≡ opened version constants (offered_arities predicates arities) (offered_table (offered_arities predicates arities) count clauses) }
+pub fn admit(version: Version, constants: u8, arities: &[u8], clauses: &[Clause]) -> Opened
+    ensures { result ≡ opened version constants arities.now (offered_table arities.now clauses.now) }
 {
-    let read = admission::admit(constants, predicates, arities, count, clauses);
-    let table = read.clauses;
-    if read.number != 0 {
-        let none = [0u8; MOST_PREDICATES];
-        let first = Version::One;
-        let blank = new_state(first, 0, 0, none, 0, table);
-        return Opened {
-            state: blank,
-            number: read.number,
-            place: read.place,
-        };
-    }
-    let state = new_state(version, constants, predicates, arities, count, table);
-    Opened {
-        state: state,
-        number: read.number,
-        place: read.place,
+    match admission::admit(constants, arities, clauses) {
+        Ok(table) => {
+            let state = new_state(version, constants, arities, &table[..clauses.len()]);
+            Opened {
+                state,
+                number: 0,
+                place: 0,
+            }
+        }
+        Err(refused) => {
+            let blank = new_state(Version::One, 0, &[], &[]);
+            Opened {
+                state: blank,
+                number: u8::from(refused.refusal),
+                place: refused.place,
+            }
+        }
     }
 }
 
@@ -168,56 +145,54 @@ impl State {
         let c = number_looked(last, x.rule, x.clause);
         let held = self.table[slot_of(c)];
         let looked = looked_at(c, held);
-        let version = run.version;
-        let n = count_looked(version, x);
+        let n = count_looked(run.version, x);
         let none = no_atom();
         let mut right = true;
         let mut at = [none; MOST_BROUGHT];
-        let mut j: usize = 0;
-        while j < n {
+        for j in 0..n {
             let z = x.atoms[j];
             let own = self.table[slot_of(z.clause)];
             let of = looked_at(z.clause, own);
             let clause = of.clause;
-            right = also(
-                right,
-                named_rightly(run.constants, run.input, run.learned, z, clause),
-            );
+            right &= named_rightly(run.constants, run.input + run.learned, z, clause);
             at[j] = source_atom(z, clause);
-            j += 1;
         }
-        let named = Named {
-            right: right,
-            at: at,
-        };
-        let rule = x.rule;
+        let named = Named { right, at };
         let instance = x.instance;
-        let a = match rule {
-            1 => run.propagate(looked, x.clause, x.literal, instance, x.count),
-            2 => run.decide(looked, named, x),
-            3 => run.conflict(looked, x.clause, instance, x.count),
-            4 => run.resolve(looked, x.literal),
-            5 => run.factorize(x.literal, x.other),
-            6 => run.skip(),
-            7 => run.backtrack(x.literal),
-            8 => run.grow(x.amount),
-            _ => run.unknown(rule),
+        let a = match Rule::try_from(x.rule) {
+            Ok(Rule::Propagate) => run.propagate(looked, x.clause, x.literal, instance, x.count),
+            Ok(Rule::Decide) => run.decide(looked, named, x),
+            Ok(Rule::Conflict) => run.conflict(looked, x.clause, instance, x.count),
+            Ok(Rule::Resolve) => run.resolve(looked, x.literal),
+            Ok(Rule::Factorize) => run.factorize(x.literal, x.other),
+            Ok(Rule::Skip) => run.skip(),
+            Ok(Rule::Backtrack) => run.backtrack(x.literal),
+            Ok(Rule::Grow) => run.grow(x.amount),
+            Err(_) => run.unknown(x.rule),
         };
-        let next = a.run;
-        let witness = a.witness;
-        let learned = a.learned as usize;
         let mut state = self;
-        state.run = next;
-        if 0 < learned {
-            let n = run.conflict;
-            let clause = n.clause;
-            state.table[learned - 1] = clause;
-        }
-        Answered {
-            state: state,
-            number: a.number,
-            place: a.place,
-            witness: witness,
+        match a {
+            Ok(stepped) => {
+                let next = stepped.run;
+                state.run = next;
+                if let Some(number) = stepped.learned {
+                    let n = run.conflict;
+                    let clause = n.clause;
+                    state.table[number as usize - 1] = clause;
+                }
+                Answered {
+                    state,
+                    number: 0,
+                    place: 0,
+                    witness: stepped.witness,
+                }
+            }
+            Err(refused) => Answered {
+                state,
+                number: u8::from(refused.refusal),
+                place: refused.place,
+                witness: None,
+            },
         }
     }
 

@@ -1,4 +1,4 @@
 -- How the parts of a step and of a file follow each other.
-pub mod Parts
 pub mod Said
 pub mod Files
+pub mod Decisions

@@ -1,24 +1,24 @@
 -- Step records, and the answers of reading a step and a whole file.
-use Rattle.std.specs.Prelude.{◌≡◌, List, [], map, Bool, ℕ, ◌≤◌, length, take}
+use Rattle.std.specs.Prelude.{◌≡◌, List, [], map, Bool, ℕ, length, Result}
 use Rattle.basis.specs.Limits.{most_brought, most_variables}
-use Rattle.lists.specs.Arrays.{exactly}
+use Rattle.basis.specs.RuleNumbers.{rule_number}
+use Rattle.lists.specs.Arrays.{exactly, held}
+use Rattle.lists.specs.declared.Held.{Held}
 use Rattle.calculus.specs.States.{Propagate, Decide, Conflict, Resolve, Factorize, Skip, Backtrack, Grow, Unknown}
 use Rattle.calculus.specs.States as calculus
 use Rattle.calculus.specs.Trails as trails
-use Rattle.runfile.specs.Readers.{Got, Reader, ◌then◌, bad, give, got}
-use Rattle.runfile.specs.File.{File, Header, byte, file, header, instance, source, sources, within}
+use Rattle.runfile.specs.Readers.{Got, Reader, ◌then◌, bad, give, got, times}
+use Rattle.runfile.specs.File.{File, file, header, instance, rule, ruled, source, sources, step}
 use Rattle.runfile.specs.Claims.{StepHeld}
-use Rattle.fields.specs.Views.{Filled, Fills, after, reached, viewed}
-use Rattle.fields.specs.declared.Cursor.{Cursor}
-use Rattle.header.specs.declared.HeaderRead.{HeaderRead}
-use Rattle.header.specs.Records.{packed_header}
+use Rattle.basis.specs.declared.Refused.{Refused}
+use Rattle.fields.specs.Views.{read, read_as}
+use Rattle.header.specs.declared.Header.{Header}
+use Rattle.header.specs.Records.{kept}
 use Rattle.asking.specs.declared.Step.{Step}
 use Rattle.asking.specs.Steps.{no_source, step_of}
 use Rattle.asking.specs.declared.Source.{Source}
 use Rattle.basis.specs.declared.Form.{Form}
-use Rattle.steps.specs.declared.SourcesRead.{SourcesRead}
 use Rattle.steps.specs.declared.Outline.{Outline}
-use Rattle.steps.specs.declared.OutlineRead.{OutlineRead}
 
 -- The record of a source
 abbrev pub packed_source : trails.Source → Source
@@ -44,66 +44,73 @@ packed_step (Backtrack l) = step_record 7 0 l 0 0 0 []
 packed_step (Grow n) = step_record 8 0 0 0 0 n []
 packed_step (Unknown r) = step_record r 0 0 0 0 0 []
 
--- What is read of a step where its atoms are only counted
-abbrev pub outline_of : Step → Outline
-outline_of x = record { rule = x.rule; clause = x.clause; literal = x.literal; other = x.other; sign = x.sign; amount = x.amount; count = x.count; brought = x.brought; instance = x.instance }
+-- The blank step
+abbrev pub blank_step : Step
+blank_step = step_record 0 0 0 0 0 0 []
 
--- o and the cursor c₁ are the outline of the step that f reads of the file s from the cursor c₀ on, and the cursor after it.
-abbrev pub Packs : (s : List ℕ) (f : Reader calculus.Step) (c₀ c₁ : Cursor) → Outline → Type 0
-Packs s f c₀ c₁ o = viewed c₁ o ≡ after c₀ ((f then λ y. give (outline_of (packed_step y))) s)
+-- The record of a step without its atoms, which are counted
+abbrev pub without_atoms : Step → Step
+without_atoms x = record { rule = x.rule; clause = x.clause; literal = x.literal; other = x.other; sign = x.sign; amount = x.amount; count = x.count; brought = x.brought; instance = x.instance; atoms = blank_step.atoms }
 
--- The same of a source; and n of them, in an array that is blank past them
-abbrev pub PacksSource : (s : List ℕ) (c₀ c₁ : Cursor) → Source → Type 0
-PacksSource s c₀ c₁ z = viewed c₁ z ≡ after c₀ ((source then λ y. give (packed_source y)) s)
+-- .. that an outline tells
+abbrev pub record_of : Outline → Step
+record_of o = record { rule = rule_number o.rule; clause = o.clause; literal = o.literal; other = o.other; sign = o.sign; amount = o.amount; count = o.count; brought = o.brought; instance = o.instance; atoms = blank_step.atoms }
 
-abbrev pub FillsSources : (s : List ℕ) (n : ℕ) (c₀ c₁ : Cursor) → List Source → Type 0
-FillsSources s n c₀ c₁ zs = Fills most_brought no_source s (source then λ y. give (packed_source y)) n c₀ c₁ zs
+-- An outline that was read, seen by that record; it has one answer. Proved in proofs/Decisions.antt.
+abbrev pub outline_read : Result (Outline × ℕ) (Refused ℕ) → Got Step
+outline_read r = read_as record_of r
 
--- The atoms that a Decide brings, read of the file s from a cursor on, and the cursor after them
-pub record ReadsSources (s : List ℕ) (f : Form) (at : Cursor) (r : SourcesRead) : Type 0 where
-  pub reads : viewed r.at (take r.count r.atoms) ≡ after at ((sources f then λ ys. give (map packed_source ys)) s)
-  pub few : r.count ≤ most_brought
-  pub filled : Filled most_brought no_source r.atoms r.count
+abbrev pub OutlineReadOnce : Type 0
+OutlineReadOnce = (r s : Result (Outline × ℕ) (Refused ℕ)) (g : Got Step) → outline_read r ≡ g → outline_read s ≡ g → r ≡ s
 
--- The instance of a step so read
-abbrev pub instance_in : Outline → List ℕ
-instance_in o = take o.count o.instance
+-- An instance, with room for as many constants as one can have
+abbrev pub constants : Reader (Held ℕ most_variables)
+constants = instance then λ τ. give (held most_variables 0 τ)
 
--- An instance read from a cursor on, in the outline r of a step with the other arguments that are named
-pub record Instanced (s : List ℕ) (at : Cursor) (rule clause literal sign : ℕ) (r : OutlineRead) : Type 0 where
-  pub reads : viewed r.at (instance_in r.outline) ≡ after at (instance s)
-  pub is : r.outline ≡ outline_of (step_record rule clause literal 0 sign 0 (instance_in r.outline))
+-- The record of an atom that a Decide brings, and of all of them
+abbrev pub source_record : Reader Source
+source_record = source then λ z. give (packed_source z)
 
--- A Decide up to its atoms, in the outline r: its clause, literal and sign read from a cursor on, one after the other, and then its instance
-pub record Decided (s : List ℕ) (at : Cursor) (r : OutlineRead) : Type 0 where
-  pub clause : ℕ
-  pub literal : ℕ
-  pub sign : ℕ
-  pub past_clause : Cursor
-  pub past_literal : Cursor
-  pub past_sign : Cursor
-  pub clause_read : viewed past_clause clause ≡ after at (byte s)
-  pub literal_read : viewed past_literal literal ≡ after past_clause (byte s)
-  pub sign_read : viewed past_sign sign ≡ after past_literal (within 0 1 s)
-  pub instanced : Instanced s past_sign 2 clause literal sign r
+abbrev pub source_records : Form → Reader (Held Source most_brought)
+source_records f = sources f then λ zs. give (held most_brought no_source (map packed_source zs))
 
--- The record of the step that was read; blank where it is refused
+-- The arguments of a rule, but for the atoms of a Decide, which are counted
+abbrev pub arguments : Form → (rule : ℕ) → Reader Step
+arguments f r = ruled f r then λ x. give (without_atoms (packed_step x))
+
+-- A step but for its atoms, which are counted
+abbrev pub outline : Form → Reader Step
+outline f = step f then λ x. give (without_atoms (packed_step x))
+
+-- The arguments of a Decide, with its atoms
+abbrev pub decided : Form → Reader Step
+decided f = ruled f 2 then λ x. give (packed_step x)
+
+-- A rule number, and what stands behind it read as the arguments of a Decide
+abbrev pub decision : Form → Reader calculus.Step
+decision f = rule then λ _. ruled f 2
+
+-- The record of the step that was read; blank where none is
 abbrev pub step_there : Got calculus.Step → Step
 step_there (got x next) = packed_step x
-step_there (bad n p) = step_record 0 0 0 0 0 0 []
+step_there (bad n p) = blank_step
 
--- The answer of reading a step where its atoms are only counted
-abbrev pub outline_answer : Got calculus.Step → OutlineRead
-outline_answer g = record { outline = outline_of (step_there g); at = reached g }
+-- Where a Decide stands, this is the whole step. Proved in proofs/Decisions.antt.
+abbrev pub DecisionWhole : Type 0
+DecisionWhole = (f : Form) (s : List ℕ) (i : ℕ) → (step_there (step f s i)).rule ≡ 2 → step_there (decision f s i) ≡ step_there (step f s i)
 
--- What stands before the first step, if the whole file is in order
-abbrev pub in_order : Got File → Got Header → Got Header
+-- n steps, of which nothing is kept
+abbrev pub passed_over : ℕ → Form → Reader (Unit {0})
+passed_over n f = times n (step f) then λ _. give tt
+
+-- What was read before, if the whole file is in order
+abbrev pub in_order : {A : Type 0} → Got File → Got A → Got A
 in_order (got F next) h = h
 in_order (bad n p) h = bad n p
 
--- The answer of reading a file: its header and the cursor of its first step, or the refusal
-abbrev pub file_answer : List ℕ → HeaderRead
-file_answer s = packed_header (in_order (file s) (header s 0))
+-- The answer of reading a file: its header and the place of its first step, or the refusal
+abbrev pub file_answer : List ℕ → Got Header
+file_answer s = in_order (file s) (kept (header s 0))
 
 -- The record of a step that a file can hold says that step.
 abbrev pub StepSaid : Type 0

@@ -1,19 +1,12 @@
 // Standard input, output and error for programs: a fault of reading or writing is one line on standard error. And the words of the command line.
 #![tactic(auto)]
 
-ghost use Rattle.streams.specs.Streams.{EndsWithin};
+ghost use Rattle.streams.specs.Streams.{EndsWithin, FillsWithin};
 
 use std::env::FillError;
-use std::io::Read as _;
+use std::io::Read;
 use std::rt::Env;
 use words::{MOST_UNKNOWN, MOST_WORD, Program, Words, no_words, put_unknown, with_word};
-
-// What reading answers: how many bytes stand at the buffer's front; or that a read failed, and then none of them counts.
-#[derive(Clone, Copy)]
-pub enum Read {
-    Bytes { count: usize },
-    Failed,
-}
 
 // A program's name and what failed, as one line
 fn tell(rt: HostRuntime, program: &[u8], fault: &[u8]) {
@@ -21,22 +14,34 @@ fn tell(rt: HostRuntime, program: &[u8], fault: &[u8]) {
     let _ = rt.stderr().write_all(fault);
 }
 
-// Reads standard input to its end, or to the buffer's. A read that a signal interrupts counts as one that failed.
-pub fn read_input(rt: HostRuntime, program: &[u8], buffer: &mut [u8]) -> Read
-    ensures { EndsWithin buffer.new result }
+// Reads to the reader's end, or to the buffer's: how many bytes stand at the buffer's front, all of them or those before a read that failed.
+// A read that a signal interrupts counts as one that failed.
+pub fn read_full(reader: &mut impl Read, buffer: &mut [u8]) -> Result<usize, usize>
+    ensures { FillsWithin buffer.new result }
 {
     let mut at: usize = 0;
+    // Each turn goes on by as many bytes as came: there is no place to be counted through.
     while at < buffer.len() {
-        match rt.stdin().read(&mut buffer[at..]) {
+        match reader.read(&mut buffer[at..]) {
             Ok(0) => break,
             Ok(more) => at += more,
-            Err(_) => {
-                tell(rt, program, b": standard input can't be read\n");
-                return Read::Failed;
-            }
+            Err(_) => return Err(at),
         }
     }
-    Read::Bytes { count: at }
+    Ok(at)
+}
+
+// Reads standard input to its end, or to the buffer's: how many bytes stand at the buffer's front; none of them counts where a read failed.
+pub fn read_input(rt: HostRuntime, program: &[u8], buffer: &mut [u8]) -> Option<usize>
+    ensures { EndsWithin buffer.new result }
+{
+    match read_full(&mut rt.stdin(), buffer) {
+        Ok(n) => Some(n),
+        Err(_) => {
+            tell(rt, program, b": standard input can't be read\n");
+            None
+        }
+    }
 }
 
 // Writes a text to standard output.
@@ -46,26 +51,28 @@ pub fn print(rt: HostRuntime, program: &[u8], text: &[u8]) {
     }
 }
 
-// With the command line's word at a position, unless there is none. Of one that is longer than any of a program's nothing is taken, so that it
-// is unknown.
-fn with_word_at(rt: HostRuntime, program: Program, words: Words, position: usize) -> Option<Words> {
-    let mut word = [0u8; MOST_WORD];
-    let count = match rt.arg(position, &mut word) {
-        Ok(count) => count,
-        Err(FillError::TooLong) => 0,
-        Err(FillError::NotPresent) => return None,
-    };
-    Some(with_word(program, words, position, &word[..count]))
+// The command line's word at a position, unless there is none: how many bytes of it stand at the buffer's front. Of one that is longer than
+// the buffer nothing is taken.
+pub fn word_at(rt: HostRuntime, position: usize, buffer: &mut [u8]) -> Option<usize>
+    ensures { EndsWithin buffer.new result }
+{
+    match rt.arg(position, buffer) {
+        Ok(count) => Some(count),
+        Err(FillError::TooLong) => Some(0),
+        Err(FillError::NotPresent) => None,
+    }
 }
 
-// What the words of the command line ask for
-pub fn words(rt: HostRuntime, program: Program) -> Words {
+// What the words of the command line ask for; or the position of the first that the program does not know. A word that is longer than any of a
+// program's is unknown.
+pub fn words(rt: HostRuntime, program: Program) -> Result<Words, usize> {
+    let mut word = [0u8; MOST_WORD];
     let mut words = no_words();
-    for j in 1..usize::MAX {
-        match with_word_at(rt, program, words, j) {
-            Some(more) => words = more,
-            None => break,
-        }
+    for position in 1..usize::MAX {
+        let Some(count) = word_at(rt, position, &mut word) else {
+            break;
+        };
+        words = with_word(program, words, position, &word[..count]);
     }
     words
 }

@@ -5,6 +5,7 @@ use mathlib.Core.Bool.{Bool, ◌||◌, cond, false, true}
 use mathlib.Core.Option.{none}
 use Prim.Native.Nat.{◌+◌, ◌<◌, ◌≤◌, suc, ℕ}
 use native.Mathlib.Omega.{arith}
+use Rattle.std.proofs.Math.Bool.{or_comm}
 use lib.Dec.{T}
 use lib.ListN.{drop, drop_of_length-le, get_or, length, length-take, set, take}
 use Rattle.basis.specs.Atoms.{no_atom}
@@ -12,18 +13,19 @@ use Rattle.basis.specs.Limits.{most_atoms, most_entries}
 use Rattle.basis.specs.declared.Atom.{Atom}
 use Rattle.lists.proofs.Arrays.{get_d_exactly}
 use Rattle.lists.proofs.Walks.{any_of_more, take_more}
-use Rattle.lists.specs.Arrays.{exactly}
+use Rattle.lists.specs.Arrays.{pushed}
 use Rattle.lists.specs.Lists.{any_of}
 use Rattle.calculus.proofs.Merged.{same_atom→eq}
 use Rattle.calculus.specs.Clauses.{Clause, ground, ground_atoms, no_literal, same_atom}
 use Rattle.calculus.specs.Rules.{propagated_trail}
 use Rattle.calculus.specs.Trails.{Origin, Trail, append_atoms, atom_on_trail, atoms_of, background, foreground}
+use Rattle.instances.proofs.Others.{stored_more}
 use Rattle.trail.proofs.Stored.{stored_pushed}
 use Rattle.trail.specs.Entries.{Recorded, Stored}
 use Rattle.trail.specs.declared.Entry.{Entry}
 use Rattle.testing.proofs.Gathering.{both_parts, part_more}
 use Rattle.testing.specs.New.{new_atoms, packed_atoms, pushed_atoms}
-use Rattle.testing.specs.declared.Atoms.{Atoms}
+use Rattle.lists.specs.declared.Held.{Held}
 
 -- ---- found one after the other
 
@@ -60,8 +62,9 @@ module _ (l : List Atom) (i j : ℕ) (h : i ≤ j) (k : j < length l) where
 pub new_none : (l : List Atom) (i : ℕ) → new_atoms (take i l) (drop i (take i l)) ≡ []
 new_none l i = ap (new_atoms (take i l)) (drop_of_length-le (take i l) {i = i} (omega (arith, length-take i l)))
 
-pub atoms_packed : {n : ℕ} {at : List Atom} (az : List Atom) → n ≡ length az → at ≡ exactly most_atoms no_atom az → record { count = n; at = at } ≡ packed_atoms az
-atoms_packed az p q = cc
+-- One more, after the others
+pub packed_more : (az : List Atom) (a : Atom) → length az < most_atoms → pushed (packed_atoms az) a ≡ packed_atoms (az ++ (a ∷ []))
+packed_more az a h = let more = stored_more no_atom most_atoms (length az) _ az _ a refl refl h refl in λ i. record { n = more.0 i; at = more.1 i }
 
 pub new_few : (known az : List Atom) → length (new_atoms known az) ≤ length az
 new_few known [] = omega arith
@@ -73,18 +76,12 @@ new_few known (a ∷ az) = go (any_of (same_atom a) known) (new_atoms (known ++ 
 
 -- ---- appended
 
-or_exchanged : (a b : Bool) → (a || b) ≡ (b || a)
-or_exchanged true true = refl
-or_exchanged true false = refl
-or_exchanged false true = refl
-or_exchanged false false = refl
-
 -- An atom is on a trail if it is one of the trail's atoms.
 pub atoms_on : (t : Trail) (a : Atom) → any_of (same_atom a) (atoms_of t) ≡ atom_on_trail a t
 atoms_on [] a = refl
 atoms_on (foreground l o ∷ t) a = atoms_on t a
 atoms_on (background b o ∷ t) a =
-    any_of_more (same_atom a) (atoms_of t) b ∙ ap (λ r. r || same_atom a b) (atoms_on t a) ∙ or_exchanged (atom_on_trail a t) (same_atom a b)
+    any_of_more (same_atom a) (atoms_of t) b ∙ ap (λ r. r || same_atom a b) (atoms_on t a) ∙ or_comm (atom_on_trail a t) (same_atom a b)
 
 append_known : (az known : List Atom) (t : Trail) → ((b : Atom) → any_of (same_atom b) known ≡ atom_on_trail b t) → append_atoms az t ≡ pushed_atoms (new_atoms known az) t
 append_known [] known t same = refl
@@ -100,7 +97,7 @@ append_known (a ∷ az) known t same = go (atom_on_trail a t) refl (λ u h. appe
     already e b true q =
         let on : atom_on_trail b t ≡ true = subst (λ x. atom_on_trail x t ≡ true) (sym (same_atom→eq b a (subst T (sym q) tt))) e in
         rw on
-    already e b false q = or_exchanged (atom_on_trail b t) false
+    already e b false q = or_comm (atom_on_trail b t) false
 
     go : (b : Bool) → atom_on_trail a t ≡ b → ((u : Trail) → ((x : Atom) → any_of (same_atom x) more ≡ atom_on_trail x u) → append_atoms az u ≡ pushed_atoms (new_atoms more az) u)
         → append_atoms az (cond (atom_on_trail a t) t (background a none ∷ t)) ≡ pushed_atoms (new_atoms known (a ∷ az)) t
@@ -108,7 +105,7 @@ append_known (a ∷ az) known t same = go (atom_on_trail a t) refl (λ u h. appe
         ap (λ b. append_atoms az (cond b t (background a none ∷ t))) e ∙ ih t (λ b. of_more b ∙ already e b (same_atom b a) refl)
         ∙ ap (λ b. pushed_atoms (cond b (new_atoms more az) (a ∷ new_atoms more az)) t) (sym (same a ∙ e))
     go false e ih =
-        ap (λ b. append_atoms az (cond b t (background a none ∷ t))) e ∙ ih (background a none ∷ t) (λ b. of_more b ∙ or_exchanged (atom_on_trail b t) (same_atom b a))
+        ap (λ b. append_atoms az (cond b t (background a none ∷ t))) e ∙ ih (background a none ∷ t) (λ b. of_more b ∙ or_comm (atom_on_trail b t) (same_atom b a))
         ∙ ap (λ b. pushed_atoms (cond b (new_atoms more az) (a ∷ new_atoms more az)) t) (sym (same a ∙ e))
 
 -- ".. then the atoms not yet on the trail, in clause order, each once": the new ones, one after the other
@@ -131,10 +128,10 @@ pushed_both [] bz t = refl
 pushed_both (a ∷ az) bz t = pushed_both az bz (background a none ∷ t)
 
 -- The next of the new atoms stored behind the entries that the array has
-pub stored_new : {es : List Entry} {e : Entry} {m : ℕ} (t : Trail) (r : Atoms) (az : List Atom) (j : ℕ) → r ≡ packed_atoms az → j < r.count → r.count ≤ most_atoms → m < most_entries
+pub stored_new : {es : List Entry} {e : Entry} {m : ℕ} (t : Trail) (r : Held Atom most_atoms) (az : List Atom) (j : ℕ) → r ≡ packed_atoms az → j < r.n → r.n ≤ most_atoms → m < most_entries
     → Recorded e (background (get_or r.at j no_atom) none) → Stored es m (pushed_atoms (take j az) t) → Stored (set es m e) (m + 1) (pushed_atoms (take (j + 1) az) t)
 stored_new {es} {e} {m} t r az j p h few room R S =
-    let counted : r.count ≡ length az = ap (λ q. q.count) p in
+    let counted : r.n ≡ length az = ap (λ q. q.n) p in
     let a = get_or az j no_atom in
     let same : get_or r.at j no_atom ≡ a = ap (λ q. get_or q.at j no_atom) p ∙ get_d_exactly no_atom most_atoms az j (omega arith) in
     let all : pushed_atoms (take (j + 1) az) t ≡ background a none ∷ pushed_atoms (take j az) t =

@@ -1,9 +1,9 @@
 -- What the constraint test is asked, and what its yes says.
-use Rattle.std.specs.Prelude.{◌≡◌, ◌↔◌, Bool, true, false, ℕ, ◌+◌, ◌≤◌, T, length, take, drop}
+use Rattle.std.specs.Option.{is_some}
+use Rattle.std.specs.Prelude.{Option, Some, ℤ, ◌≡◌, ◌↔◌, Bool, true, false, ℕ, ◌+◌, ◌≤◌, T, length, take, drop, set}
 use mathlib.Core.List.{List, ◌++◌, Memᴰ}
 use Rattle.basis.specs.declared.Atom.{Atom}
 use Rattle.basis.specs.declared.Literal.{Literal}
-use Rattle.basis.specs.declared.Witness.{Witness}
 use Rattle.basis.specs.Limits.{most_constants, most_entries, most_atoms, most_tested}
 use Rattle.basis.specs.Numbers.{whole}
 use Rattle.basis.specs.Atoms.{no_atom, InTest, Proper, Possible}
@@ -11,9 +11,6 @@ use Rattle.lists.specs.Arrays.{exactly}
 use Rattle.calculus.specs.Tests.{atoms_undefined}
 use Rattle.calculus.specs.Trails.{Entry, Trail, atoms_of, foreground, background, undefined}
 use Rattle.constraint.specs.Test.{NumbersIn}
-use Rattle.constraint.specs.Witnesses.{no_numbers}
-use Rattle.constraint.specs.declared.Answer.{Answer}
-use Rattle.constraint.specs.declared.Answer.TheVariants.{Yes, No, Refused}
 use Rattle.testing.specs.declared.DecisionSeen.{DecisionSeen}
 use Rattle.testing.specs.declared.Tested.{Tested}
 
@@ -47,6 +44,10 @@ known_atoms t = take t.known t.atoms
 abbrev pub step_atoms : Tested → List Atom
 step_atoms t = drop t.known (tested_atoms t)
 
+-- One atom more, after the others
+abbrev pub tested_with : Tested → Atom → Tested
+tested_with t a = record { known = t.known; count = t.count + 1; atoms = set t.atoms t.count a }
+
 -- The record counts no more atoms than there is room for, at most 24 of them the step's.
 pub record InRoom (t : Tested) : Type 0 where
   pub ordered : t.known ≤ t.count
@@ -64,21 +65,14 @@ pub record Testable (constants : ℕ) (atoms : List Atom) : Type 0 where
 abbrev pub SaysPossible : ℕ → List Atom → Bool → Type 0
 SaysPossible constants atoms b = T b ↔ (Testable constants atoms × Possible whole constants atoms)
 
--- Whether an answer is yes
-abbrev pub is_yes : Answer → Bool
-is_yes Yes = true
-is_yes No = false
-is_yes (Refused number place) = false
-
 -- Numbers are given with a yes alone, and they are those behind it.
-pub record WitnessOf (constants : ℕ) (atoms : List Atom) (w : Witness) : Type 0 where
-  pub says : SaysPossible constants atoms w.given
-  pub shown : T w.given → NumbersIn constants atoms w.numbers
-  pub blank : ¬ T w.given → w.numbers ≡ no_numbers
+pub record WitnessOf (constants : ℕ) (atoms : List Atom) (w : Option (List ℤ)) : Type 0 where
+  pub says : SaysPossible constants atoms (is_some w)
+  pub shown : (numbers : List ℤ) → w ≡ Some numbers → NumbersIn constants atoms numbers
 
 -- There is one such record. Proved in proofs/Asked.antt.
 abbrev pub WitnessOnce : Type 0
-WitnessOnce = (constants : ℕ) (atoms : List Atom) (v w : Witness) → WitnessOf constants atoms v → WitnessOf constants atoms w → v ≡ w
+WitnessOnce = (constants : ℕ) (atoms : List Atom) (v w : Option (List ℤ)) → WitnessOf constants atoms v → WitnessOf constants atoms w → v ≡ w
 
 -- ---- what a Decide asks
 

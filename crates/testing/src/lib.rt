@@ -2,26 +2,26 @@
 // trail.
 #![tactic(auto)]
 
-ghost use Rattle.std.specs.Prelude.{◌≡◌, [], ◌≤◌, take};
+ghost use Rattle.std.specs.Prelude.{◌≡◌, [], not, ◌||◌, ◌<◌, ◌≤◌, length};
+ghost use Rattle.basis.specs.Atoms.{denial};
 ghost use Rattle.basis.specs.Limits.{most_atoms, most_entries, most_tested};
-ghost use Rattle.calculus.specs.Clauses.{ground_atoms};
+ghost use Rattle.lists.specs.Lists.{any_of};
+ghost use Rattle.calculus.specs.Clauses.{ground_atoms, same_atom};
 ghost use Rattle.calculus.specs.Tests.{atoms_undefined};
 ghost use Rattle.calculus.specs.Trails.{atoms_of};
 ghost use Rattle.clauses.specs.Records.{clause_of};
-ghost use Rattle.trail.specs.Entries.{entry_of, trail_of};
-ghost use Rattle.std.proofs.Math.Option.{none};
-ghost use Rattle.testing.specs.Asked.{is_background, tested_atoms, known_atoms, step_atoms, is_yes, Gathers, InRoom, SeesDecision, WitnessOf};
-ghost use Rattle.testing.specs.New.{listed, new_atoms, packed_atoms};
-ghost use Rattle.constraint.specs.Witnesses.{packed_witness};
+ghost use Rattle.trail.specs.Entries.{entries_of, entry_of};
+ghost use Rattle.testing.specs.Asked.{is_background, tested_atoms, known_atoms, step_atoms, tested_with, Gathers, InRoom, SeesDecision, WitnessOf};
+ghost use Rattle.testing.specs.New.{new_atoms, packed_atoms};
 
-use basis::{
-    Atom, Literal, MOST_ATOMS, MOST_CONSTANTS, MOST_ENTRIES, MOST_TESTED, MOST_VARIABLES, Witness,
-};
-use clauses::{Clause, atoms_of, denial, ground_atom, no_atom, same_atom};
-use constraint::Answer;
-use trail::{Entry, Kind, is_about};
+use basis::{Atom, Literal, MOST_ATOMS, MOST_TESTED, Numbers};
+use clauses::{Clause, denial, ground_atom, no_atom};
+use lists::Held;
+use slices::prefix;
+use trail::{Entry, Kind, undefined};
 
-// The atoms put to the constraint test: `known` of the trail, then the step's, `count` in all; blank past them
+// The atoms put to the constraint test: `known` of the trail, then the step's, `count` in all; blank past them. An array, since no heap is used, and no
+// `Held`, since two counts stand in it (`GathersOnce`).
 #[derive(Clone, Copy)]
 pub struct Tested {
     pub known: u8,
@@ -29,12 +29,8 @@ pub struct Tested {
     pub atoms: [Atom; MOST_TESTED],
 }
 
-// The atoms of a step, blank past their count: those it brings, or those not yet on the trail
-#[derive(Clone, Copy)]
-pub struct Atoms {
-    pub count: u8,
-    pub at: [Atom; MOST_ATOMS],
-}
+// The atoms of a step, blank past their count: those not yet on the trail
+pub type Atoms = Held<Atom, MOST_ATOMS>;
 
 // What a Decide asks of the trail and of the atoms that it brings: whether its literal is undefined, whether they are, and the numbers behind the
 // yes of the test of them and the trail's
@@ -42,239 +38,143 @@ pub struct Atoms {
 pub struct DecisionSeen {
     pub free: bool,
     pub fresh: bool,
-    pub witness: Witness,
+    pub witness: Option<Numbers>,
 }
 
-// Whether the entry is an atom
-fn is_background(e: Entry) -> bool
-    ensures { result ≡ is_background (entry_of e) }
-{
-    let kind = e.kind;
-    match kind {
-        Kind::Background => true,
-        Kind::Brought => true,
-        Kind::Propagated => false,
-        Kind::Decided => false,
+impl Tested {
+    // All of them, and no more than there is room for
+    pub fn all(&self) -> &[Atom]
+        ensures { result.now ≡ tested_atoms self.now }
+    {
+        prefix(&self.atoms, usize::from(self.count))
+    }
+
+    // One more, after the others
+    fn push(&mut self, a: Atom)
+        requires { self.old.count < most_tested }
+        ensures { self.new ≡ tested_with self.old a }
+    {
+        self.atoms[usize::from(self.count)] = a;
+        self.count += 1;
     }
 }
 
-// The trail's atoms, from the first entry on, and none of a step
-fn trail_gathered(trail: [Entry; MOST_ENTRIES], length: u8) -> Tested
-    requires { length ≤ most_entries }
-    ensures { Gathers result (atoms_of (trail_of trail length)) [] }
+// Whether the entry is an atom
+fn is_background(e: &Entry) -> bool
+    ensures { result ≡ is_background (entry_of e.now) }
 {
-    let n = length as usize;
+    matches!(e.kind, Kind::Background | Kind::Brought)
+}
+
+// The trail's atoms, from the first entry on, and none of a step
+fn trail_gathered(trail: &[Entry]) -> Tested
+    requires { length trail.now ≤ most_entries }
+    ensures { Gathers result (atoms_of (entries_of trail.now)) [] }
+{
     let blank = no_atom();
     let mut tested = Tested {
         known: 0,
         count: 0,
         atoms: [blank; MOST_TESTED],
     };
-    let mut m = 0;
-    let mut left = n;
-    while 0 < left {
-        let e = trail[n - left];
-        left -= 1;
+    for e in trail {
         if is_background(e) {
-            let a = e.atom;
-            tested.atoms[m] = a;
-            m += 1;
+            tested.push(e.atom);
         }
     }
-    tested.known = m as u8;
-    tested.count = m as u8;
+    tested.known = tested.count;
     tested
 }
 
 // "trail atoms and the clause's atoms": the trail's, then those of the clause's instance in clause order
-pub fn gathered(
-    trail: [Entry; MOST_ENTRIES],
-    length: u8,
-    clause: Clause,
-    instance: [u8; MOST_VARIABLES],
-    count: u8,
-) -> Tested
-    requires { length ≤ most_entries }
-    ensures { Gathers result (atoms_of (trail_of trail length)) (ground_atoms (take count instance) (clause_of clause).atoms) }
+pub fn gathered(trail: &[Entry], clause: Clause, instance: &[u8]) -> Tested
+    requires { length trail.now ≤ most_entries }
+    ensures { Gathers result (atoms_of (entries_of trail.now)) (ground_atoms instance.now (clause_of clause).atoms) }
 {
-    let own = atoms_of(clause);
-    let mut tested = trail_gathered(trail, length);
-    let mut m = tested.known as usize;
-    let mut j = 0;
-    while j < own {
-        let b = clause.atoms[j];
-        tested.atoms[m] = ground_atom(b, instance, count);
-        m += 1;
-        j += 1;
+    let mut tested = trail_gathered(trail);
+    for a in clause.atoms() {
+        tested.push(ground_atom(*a, instance));
     }
-    tested.count = m as u8;
     tested
 }
 
 // The trail's, then those that a step brings, in order
-pub fn gathered_with(trail: [Entry; MOST_ENTRIES], length: u8, step: Atoms) -> Tested
-    requires { (length ≤ most_entries) × (step.count ≤ most_atoms) }
-    ensures { Gathers result (atoms_of (trail_of trail length)) (listed step) }
+pub fn gathered_with(trail: &[Entry], step: &[Atom]) -> Tested
+    requires { (length trail.now ≤ most_entries) × (length step.now ≤ most_atoms) }
+    ensures { Gathers result (atoms_of (entries_of trail.now)) step.now }
 {
-    let own = step.count as usize;
-    let mut tested = trail_gathered(trail, length);
-    let mut m = tested.known as usize;
-    let mut j = 0;
-    while j < own {
-        let b = step.at[j];
-        tested.atoms[m] = b;
-        m += 1;
-        j += 1;
+    let mut tested = trail_gathered(trail);
+    for a in step {
+        tested.push(*a);
     }
-    tested.count = m as u8;
     tested
 }
 
-// No numbers
-pub fn no_witness() -> Witness
-    ensures { result ≡ packed_witness none }
+// The numbers behind the yes of the constraint test; none where the atoms are not such as it takes, or not together possible
+pub fn possible(constants: u8, tested: &Tested) -> Option<Numbers>
+    ensures { WitnessOf constants (tested_atoms tested.now) result }
 {
-    Witness {
-        given: false,
-        numbers: [0i32; MOST_CONSTANTS],
+    match constraint::possible(constants, tested.all()) {
+        Ok(numbers) => numbers,
+        Err(_) => None,
     }
 }
 
-fn is_yes(answer: Answer) -> bool
-    ensures { result ≡ is_yes answer }
+// Whether the atom is among those
+fn is_among(a: Atom, among: &[Atom]) -> bool
+    ensures { result ≡ any_of (same_atom a) among.now }
 {
-    match answer {
-        Answer::Yes => true,
-        Answer::No => false,
-        Answer::Refused { number, place } => false,
-    }
+    among.contains(&a)
 }
 
-// Whether the atoms are such as the constraint test takes, and together possible; and the numbers behind its yes
-pub fn possible(constants: u8, tested: Tested) -> Witness
-    requires { tested.count ≤ most_tested }
-    ensures { WitnessOf constants (tested_atoms tested) result }
+// Whether the atom or its denial is among those
+fn is_defined(a: Atom, among: &[Atom]) -> bool
+    ensures { result ≡ (any_of (same_atom a) among.now || any_of (same_atom (denial a)) among.now) }
 {
-    let atoms = tested.atoms;
-    let found = constraint::possible(constants, tested.count, atoms);
-    let answer = found.answer;
-    let numbers = found.numbers;
-    Witness {
-        given: is_yes(answer),
-        numbers: numbers,
-    }
+    is_among(a, among) || is_among(denial(a), among)
 }
 
 // "an atom so brought, or its denial, is on the trail or brought before it": whether none of the step's is
-pub fn all_undefined(tested: Tested) -> bool
-    requires { InRoom tested }
-    ensures { result ≡ atoms_undefined (known_atoms tested) (step_atoms tested) }
+pub fn all_undefined(tested: &Tested) -> bool
+    requires { InRoom tested.now }
+    ensures { result ≡ atoms_undefined (known_atoms tested.now) (step_atoms tested.now) }
 {
-    let n = tested.count as usize;
-    let known = tested.known as usize;
-    let mut j = known;
-    while j < n {
-        let a = tested.atoms[j];
-        let d = denial(a);
-        let mut k = 0;
-        while k < j {
-            let b = tested.atoms[k];
-            if same_atom(a, b) {
-                return false;
-            }
-            if same_atom(d, b) {
-                return false;
-            }
-            k += 1;
+    let all = tested.all();
+    let known = usize::from(tested.known);
+    for j in known..all.len() {
+        if is_defined(all[j], &all[..j]) {
+            return false;
         }
-        j += 1;
     }
     true
 }
 
 // What a Decide asks: whether its literal is undefined, whether the atoms that it brings are, and whether they are possible together with the
-// trail's. One walk over the trail finds the literal and gathers the atoms.
-pub fn decision_seen(
-    trail: [Entry; MOST_ENTRIES],
-    length: u8,
-    constants: u8,
-    l: Literal,
-    step: Atoms,
-) -> DecisionSeen
-    requires { (length ≤ most_entries) × (step.count ≤ most_atoms) }
-    ensures { SeesDecision constants (trail_of trail length) l (listed step) result }
+// trail's.
+pub fn decision_seen(trail: &[Entry], constants: u8, l: Literal, step: &[Atom]) -> DecisionSeen
+    requires { (length trail.now ≤ most_entries) × (length step.now ≤ most_atoms) }
+    ensures { SeesDecision constants (entries_of trail.now) l step.now result }
 {
-    let n = length as usize;
-    let own = step.count as usize;
-    let blank = no_atom();
-    let mut free = true;
-    let mut tested = Tested {
-        known: 0,
-        count: 0,
-        atoms: [blank; MOST_TESTED],
-    };
-    let mut m = 0;
-    let mut k = 0;
-    while k < n {
-        let e = trail[k];
-        k += 1;
-        if is_background(e) {
-            let a = e.atom;
-            tested.atoms[m] = a;
-            m += 1;
-        } else {
-            if is_about(e, l) {
-                free = false;
-            }
-        }
-    }
-    tested.known = m as u8;
-    let mut j = 0;
-    while j < own {
-        let b = step.at[j];
-        tested.atoms[m] = b;
-        m += 1;
-        j += 1;
-    }
-    tested.count = m as u8;
-    let fresh = all_undefined(tested);
-    let witness = possible(constants, tested);
+    let tested = gathered_with(trail, step);
     DecisionSeen {
-        free: free,
-        fresh: fresh,
-        witness: witness,
+        free: undefined(trail, l),
+        fresh: all_undefined(&tested),
+        witness: possible(constants, &tested),
     }
 }
 
 // "the atoms not yet on the trail, in clause order, each once": those of the clause's that equal no earlier one
-pub fn new_atoms(tested: Tested) -> Atoms
-    requires { InRoom tested }
-    ensures { result ≡ packed_atoms (new_atoms (known_atoms tested) (step_atoms tested)) }
+pub fn new_atoms(tested: &Tested) -> Atoms
+    requires { InRoom tested.now }
+    ensures { result ≡ packed_atoms (new_atoms (known_atoms tested.now) (step_atoms tested.now)) }
 {
-    let atoms = tested.atoms;
-    let n = tested.count as usize;
-    let blank = no_atom();
-    let mut at = [blank; MOST_ATOMS];
-    let mut m = 0;
-    let mut j = tested.known as usize;
-    'atoms: while j < n {
-        let a = atoms[j];
-        let mut i = 0;
-        while i < j {
-            let b = atoms[i];
-            if same_atom(a, b) {
-                j += 1;
-                continue 'atoms;
-            }
-            i += 1;
+    let all = tested.all();
+    let known = usize::from(tested.known);
+    let mut fresh = Held::new(no_atom());
+    for j in known..all.len() {
+        if !is_among(all[j], &all[..j]) {
+            fresh.push(all[j]);
         }
-        at[m] = a;
-        m += 1;
-        j += 1;
     }
-    let found = m as u8;
-    Atoms {
-        count: found,
-        at: at,
-    }
+    fresh
 }

@@ -4,12 +4,11 @@ use mathlib.Core.Bool.{Bool, true, false, cond}
 use mathlib.Core.List.{List, [], ◌∷◌, ◌++◌}
 use Prim.Native.Nat.{ℕ, zero, suc, ◌+◌, ◌*◌, ◌/◌, ◌%◌, ◌≤◌, ◌<◌}
 use native.Mathlib.Omega.{arith}
-use native.Mathlib.Numerals.{add-one}
 use native.Mathlib.Nat.{add-zero, add-suc, suc-add, zero-add}
 use borrow.Author.Tests.{lt-ltb, le-ltb, ltb-true, ltb-false}
 use lib.Dec.{ltb}
-use lib.ListN.{length, take, drop, set, get_or, length-append}
-use lib.Seq.{sets, length-sets, sets-eq, take-suc, length-take-le}
+use lib.ListN.{length, drop, set, length-append}
+use lib.Seq.{sets, length-sets, sets-eq}
 use Rattle.text.specs.Text.{digit, decimal_in, decimal, Wrote, WroteOnce}
 
 -- ---- decimal digits
@@ -62,13 +61,6 @@ module _ {A : Type 0} where
   pub sets_append : (d : List A) (i : ℕ) (v w : List A) → sets d i (v ++ w) ≡ sets (sets d i v) (i + length v) w
   sets_append d i [] w = rw (add-zero i)
   sets_append d i (x ∷ v) w = sets_append (set d i x) (suc i) v w ∙ ap (λ (k : ℕ). sets (sets (set d i x) (suc i) v) k w) (suc-add i (length v) ∙ sym (add-suc i (length v)))
-
-  -- One store more
-  pub sets_more : (d : List A) (i : ℕ) (w : List A) (j : ℕ) (z : A) → j < length w → set (sets d i (take j w)) (i + j) (get_or w j z) ≡ sets d i (take (j + 1) w)
-  sets_more d i w j z h =
-      sym (ap (λ (n : ℕ). sets d i (take n w)) (add-one j) ∙ ap (λ (l : List A). sets d i l) (take-suc w j z h)
-      ∙ sets_append d i (take j w) (get_or w j z ∷ [])
-      ∙ ap (λ (n : ℕ). set (sets d i (take j w)) (i + n) (get_or w j z)) (length-take-le j w (omega arith)))
 
 -- ---- writers
 

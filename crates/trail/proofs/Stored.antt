@@ -12,12 +12,12 @@ use lib.Seq.{get_or-set_other, get_or-set_same, take-suc}
 use Rattle.basis.specs.Limits.{most_entries, most_variables}
 use Rattle.lists.proofs.Arrays.{exactly_length, set_exactly, take_exactly, unset_exactly}
 use Rattle.lists.specs.Arrays.{exactly}
-use Rattle.trail.specs.Entries.{AllShort, OwnTrail, Recorded, RecordedOnce, Short, Stored, entry_of, blank_entry, packed_entry, packed_trail, past_end, trail_of}
+use Rattle.trail.specs.Entries.{AllShort, OwnTrail, Recorded, RecordedOnce, Short, Stored, entries_of, entry_of, blank_entry, packed_entry, packed_trail, past_end, trail_of}
 use Rattle.trail.specs.declared.Entry.{Entry}
 use Rattle.calculus.specs.Rules.{without_last}
 use Rattle.calculus.specs.Trails as calculus
 use Rattle.calculus.specs.Trails.{Trail, background, cut, decided, decisions, foreground, propagated}
-use Rattle.trail.proofs.Walks.{trail_length}
+use Rattle.trail.proofs.Walks.{entries_first, trail_length}
 
 -- ---- one entry
 
@@ -117,6 +117,11 @@ pub packed_stored : (t : Trail) → length t ≤ most_entries → AllShort t →
 packed_stored [] h s = stored_none
 packed_stored (x ∷ t) h s =
     subst (λ a. Stored a (suc (length t)) (x ∷ t)) (packed_push x t h) (stored_push (packed_stored t (omega arith) s.1) h x s.0)
+
+-- .. and so do its entries' records, first to last.
+pub records_say : (t : Trail) → length t ≤ most_entries → AllShort t → entries_of (map packed_entry (reverse t)) ≡ t
+records_say t h s =
+    ap entries_of (sym (row_held t h)) ∙ entries_first (packed_trail t) (length t) (omega (arith, packed_length t)) ∙ (packed_stored t h s).says
 
 pub recorded_once : RecordedOnce
 recorded_once e f x a b = a.is ∙ sym b.is

@@ -8,12 +8,14 @@ use native.Mathlib.Nat.{max-eq_left, max-eq_right, max-le}
 use native.Mathlib.Numerals.{add-one}
 use native.Mathlib.Omega.{arith}
 use lib.Dec.{leb}
-use lib.ListN.{get_or, length}
+use lib.ListN.{get_or, length, take}
+use lib.Seq.{get_or-take, length-take-le, take-length, take-suc}
 use borrow.Author.Tests.{le-leb}
 use Rattle.basis.specs.declared.Literal.{Literal}
+use Rattle.lists.proofs.Walks.{any_of_more}
 use Rattle.lists.specs.Lists.{any_of}
 use Rattle.trail.specs.Answers.{is_about}
-use Rattle.trail.specs.Entries.{entry_of, past_end, trail_of}
+use Rattle.trail.specs.Entries.{entries_of, entry_of, past_end, trail_of}
 use Rattle.trail.specs.declared.Entry.{Entry}
 use Rattle.calculus.proofs.Levels.{decisions_more, level_le}
 use Rattle.calculus.specs.Clauses.{complement}
@@ -31,15 +33,39 @@ or_true false = refl
 -- ---- whether some entry passes a test
 
 module _ (p : calculus.Entry → Bool) (es : List Entry) where
-  pub any_more : (k : ℕ) → any_of p (trail_of es k) ≡ false → p (entry_of (get_or es k past_end)) ≡ false → any_of p (trail_of es (k + 1)) ≡ false
-  any_more k h e = rw add-one (ap₂ (λ a b. a || b) e h)
-
   pub any_found : (k n : ℕ) → k < n → p (entry_of (get_or es k past_end)) ≡ true → any_of p (trail_of es n) ≡ true
   any_found k zero h e = absurd (omega arith)
   any_found k (suc n) h e = elim (dec_lt k n) [ yes i ↦ ap (λ b. p (entry_of (get_or es n past_end)) || b) (any_found k n i e) ∙ or_true (p (entry_of (get_or es n past_end))) | no i ↦ here (omega arith) ]
     where
       here : k ≡ n → any_of p (trail_of es (suc n)) ≡ true
       here q = ap (λ b. b || any_of p (trail_of es n)) (subst (λ j. p (entry_of (get_or es j past_end)) ≡ true) q e)
+
+-- .. told of the records, from the first on
+pub any_entries : (p : calculus.Entry → Bool) (es : List Entry) (n : ℕ) → n ≤ length es → any_of p (trail_of es n) ≡ any_of (λ e. p (entry_of e)) (take n es)
+any_entries p es zero h = refl
+any_entries p es (suc n) h =
+    let e = get_or es n past_end in
+    ap (λ b. p (entry_of e) || b) (any_entries p es n (omega arith))
+    ∙ swapped (p (entry_of e)) (any_of (λ e. p (entry_of e)) (take n es))
+    ∙ sym (any_of_more (λ e. p (entry_of e)) (take n es) e)
+    ∙ ap (any_of (λ e. p (entry_of e))) (sym (take-suc es n past_end h))
+  where
+    swapped : (a b : Bool) → (a || b) ≡ (b || a)
+    swapped true true = refl
+    swapped true false = refl
+    swapped false true = refl
+    swapped false false = refl
+
+pub any_of_entries : (p : calculus.Entry → Bool) (es : List Entry) → any_of p (entries_of es) ≡ any_of (λ e. p (entry_of e)) es
+any_of_entries p es = any_entries p es (length es) (omega arith) ∙ ap (any_of (λ e. p (entry_of e))) (take-length es)
+
+-- The first n entries of an array, as a slice
+pub entries_first : (es : List Entry) (n : ℕ) → n ≤ length es → entries_of (take n es) ≡ trail_of es n
+entries_first es n h = ap (trail_of (take n es)) (length-take-le n es h) ∙ same n (omega arith)
+  where
+    same : (k : ℕ) → k ≤ n → trail_of (take n es) k ≡ trail_of es k
+    same zero q = refl
+    same (suc k) q = ap₂ {C = Trail} (λ e t. entry_of e ∷ t) (get_or-take n es k past_end (omega arith)) (same k (omega arith))
 
 either_on : (l : Literal) (t : Trail) → (on_trail l t || on_trail (complement l) t) ≡ any_of (is_about l) t
 either_on l [] = refl
@@ -51,11 +77,8 @@ either_on l (e ∷ t) = go (is_literal l e) (is_literal (complement l) e) (on_tr
     go false true false d = refl
     go false false c d = refl
 
--- A literal is undefined where the walk came to the trail's end, and not where it came to an entry about the literal.
+-- A literal is not undefined where the walk came to an entry about it.
 module _ (l : Literal) (es : List Entry) (k n : ℕ) where
-  pub none_about : k ≡ n → any_of (is_about l) (trail_of es k) ≡ false → undefined (trail_of es n) l ≡ true
-  none_about q h = ap not (either_on l (trail_of es n) ∙ rw q at h)
-
   pub one_about : k < n → is_about l (entry_of (get_or es k past_end)) ≡ true → undefined (trail_of es n) l ≡ false
   one_about h e = ap not (either_on l (trail_of es n) ∙ any_found (is_about l) es k n h e)
 

@@ -1,5 +1,5 @@
 -- What the functions answer: the walk of refusal 12, and levels.
-use Rattle.std.specs.Prelude.{List, Bool, ◌&&◌, ◌||◌, cond, ℕ, zero, length}
+use Rattle.std.specs.Prelude.{List, Bool, true, false, ◌||◌, cond, ℕ, Option, None, Some, length}
 use Rattle.basis.specs.declared.Literal.{Literal}
 use Rattle.lists.specs.Lists.{all_of}
 use Rattle.calculus.specs.Clauses.{Clause, Instanced, same_literal, complement, ground}
@@ -15,18 +15,28 @@ is_about l e = is_literal l e || is_literal (complement l) e
 
 -- ---- refusal 12
 
--- The literal's instance is false, or it need not be: where only the others must be, it is `own`. For Propagate `others` is true, and all
--- of a clause's literals pass if `others_false`; for Conflict it is false, and they do if `all_false`.
-abbrev pub passes : Bool → Literal → Trail → List ℕ → Literal → Bool
-passes others own t τ m = others && same_literal (ground τ m) own || is_false t (ground τ m)
+-- The literal that need not be false, where there is one, is m.
+abbrev pub is_own : Option Literal → Literal → Bool
+is_own None m = false
+is_own (Some g) m = same_literal m g
 
--- The number, from 1, of the first that fails the test; 0 where none does
-abbrev pub first_number : (Literal → Bool) → List Literal → ℕ
-first_number f ls = cond (all_of f ls) zero (first_failing f ls)
+-- The literal's instance is false, or it need not be. For Propagate L's instance is `own`, only the others must be, and all of a clause's literals
+-- pass if `others_false`; for Conflict there is no `own`, and they do if `all_false`.
+abbrev pub passes : Option Literal → Trail → List ℕ → Literal → Bool
+passes own t τ m = is_own own (ground τ m) || is_false t (ground τ m)
 
--- What Propagate and Conflict ask of a trail: whether g is undefined, and the number of the first literal that must be false and is not
-abbrev pub literals_seen : Trail → Clause → List ℕ → Bool → Literal → LiteralsSeen
-literals_seen t C τ others g = record { free = undefined t g; first = first_number (passes others g t τ) C.literals }
+-- The number, from 1, of the first that fails the test, if one does
+abbrev pub first_number : (Literal → Bool) → List Literal → Option ℕ
+first_number f ls = cond (all_of f ls) None (Some (first_failing f ls))
+
+-- Whether `own` is undefined; true where there is none, of which nothing is asked
+abbrev pub is_free : Option Literal → Trail → Bool
+is_free None t = true
+is_free (Some g) t = undefined t g
+
+-- What Propagate and Conflict ask of a trail: whether `own` is undefined, and the number of the first literal that must be false and is not, if one is not
+abbrev pub literals_seen : Trail → Clause → List ℕ → Option Literal → LiteralsSeen
+literals_seen t C τ own = record { free = is_free own t; first = first_number (passes own t τ) C.literals }
 
 -- ---- levels
 

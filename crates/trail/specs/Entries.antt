@@ -44,6 +44,10 @@ abbrev pub trail_of : List Entry → ℕ → Trail
 trail_of es zero = []
 trail_of es (suc n) = entry_of (get_or es n past_end) ∷ trail_of es n
 
+-- All of them
+abbrev pub entries_of : List Entry → Trail
+entries_of es = trail_of es (length es)
+
 -- The array of a trail, blank past its length
 unfoldable pub packed_trail : Trail → List Entry
 packed_trail t = exactly most_entries blank_entry (map packed_entry (reverse t))

@@ -1,4 +1,4 @@
--- What stands beneath the line of an accepted step: the witness record has it, and there is one such text.
+-- What stands beneath the line of an accepted step: the code has it by what was handed on, and there is one such text.
 use mathlib.Core.Path.{◌∙◌, ◌≡◌, ap, refl, subst, sym}
 use mathlib.Core.Bool.{Bool, ◌&&◌, false, true}
 use mathlib.Core.List.{List}
@@ -13,7 +13,7 @@ use Rattle.basis.specs.Limits.{most_constants}
 use Rattle.basis.specs.Numbers.{whole}
 use Rattle.basis.specs.Refusals.{accepted}
 use Rattle.basis.specs.declared.Atom.{Atom}
-use Rattle.basis.specs.declared.Witness.{Witness}
+use Rattle.std.specs.Prelude as std
 use Rattle.lists.proofs.Arrays.{take_exactly}
 use Rattle.calculus.specs.Handing.{Hands, HandsOn, tests}
 use Rattle.calculus.specs.Rules.{question}
@@ -25,22 +25,22 @@ use Rattle.listing.proofs.Once.{nothing_once}
 use Rattle.inspection.specs.NumbersText.{numbers_line, numbers_text}
 use Rattle.trying.specs.Running.{text_beneath}
 use Rattle.trying.specs.Texts.{beneath, numbers_beneath}
-use Rattle.constraint.specs.Witnesses.{packed_witness}
+use Rattle.constraint.specs.Witnesses.{packed_given, packed_numbers}
 
 -- There are as many numbers as constants.
 hands_length : (c : Bool) (n : ℕ) (az : List Atom) (ns : List ℤ) → Hands c n az (some ns) → length ns ≡ n
 hands_length true n az ns (ms, M, e) = let same : ns ≡ ms = cc in ap length (same ∙ M.less_zero) ∙ less_zero_length n M.choice
 hands_length false n az ns e = let z : ◌≡◌ {A = ℕ} 0 1 = cc in absurd (omega arith)
 
--- What a step hands on, of the state's constants, is what its witness record has beneath the line.
+-- What a step hands on, of the state's constants, is what stands beneath the line.
 module _ (s : State) (few : s.constants ≤ most_constants) (x : Step) where
-  told_text : (h : Option (List ℤ)) → HandsOn s x accepted h → text_beneath true s.constants (packed_witness h) ≡ numbers_text h
+  told_text : (h : Option (List ℤ)) → HandsOn s x accepted h → text_beneath true s.constants (packed_given h) ≡ numbers_text h
   told_text none H = refl
   told_text (some ns) H =
       let long = hands_length (eqb accepted accepted && tests x) s.constants (question s x) ns H in
-      ap numbers_line (ap (λ (k : ℕ). take k (packed_witness (some ns)).numbers) (sym long) ∙ take_exactly (pos 0) most_constants ns (omega arith))
+      ap numbers_line (ap (λ (k : ℕ). take k (packed_numbers ns)) (sym long) ∙ take_exactly (pos 0) most_constants ns (omega arith))
 
-  pub told_beneath : (numbered : Bool) {number constants : ℕ} (h : Option (List ℤ)) {w : Witness} → HandsOn s x number h → number ≡ accepted → constants ≡ s.constants → w ≡ packed_witness h
+  pub told_beneath : (numbered : Bool) {number constants : ℕ} (h : Option (List ℤ)) {w : std.Option (List ℤ)} → HandsOn s x number h → number ≡ accepted → constants ≡ s.constants → w ≡ packed_given h
       → beneath numbered s x (text_beneath numbered constants w)
   told_beneath true h H z c e =
       let H' = subst (λ (k : ℕ). HandsOn s x k h) z H in

@@ -9,6 +9,8 @@ use lib.ListN.{length, get_or, set, drop_of_length-le}
 use Rattle.basis.specs.Limits.{most_brought, most_clauses, most_constants}
 use Rattle.basis.specs.Numbers.{whole}
 use Rattle.basis.specs.Refusals.{accepted}
+use Rattle.basis.specs.RuleNumbers.{rule_number}
+use Rattle.basis.specs.declared.Rule.TheVariants as rules
 use Rattle.basis.specs.Versions.{form_of}
 use Rattle.basis.specs.declared.Atom.{Atom}
 use Rattle.basis.specs.declared.Form.{Form}
@@ -22,15 +24,14 @@ use Rattle.calculus.specs.States as states
 use Rattle.calculus.specs.States.{Backtrack, Conflict, Decide, Factorize, Grow, Propagate, Resolve, Skip, Unknown, clauses}
 use Rattle.calculus.proofs.Answers.{number_in_table}
 use Rattle.calculus.proofs.Runs.{admitted_reached, steps_keep_reached}
-use Rattle.runfile.specs.Readers.{got}
+use Rattle.runfile.specs.Readers.{bad, got}
+use Rattle.runfile.proofs.Given.{no_value}
 use Rattle.runfile.specs.File.{File, file, header, most_steps, step, opened}
-use Rattle.fields.specs.Views.{reached}
-use Rattle.fields.specs.declared.Cursor.TheVariants as C
 use Rattle.clauses.specs.Records.{clause_of, packed}
 use Rattle.clauses.specs.declared.Clause.{Clause}
 use Rattle.clauses.proofs.Records.{past_table}
 use Rattle.header.specs.Records.{input_of}
-use Rattle.header.specs.declared.HeaderRead.{HeaderRead}
+use Rattle.header.specs.declared.Header.{Header}
 use Rattle.rules.specs.Answers.{Answered, AnsweredNamed, Answers, Handed, HandedNamed, Kept, RunOf, Told}
 use Rattle.asking.specs.Looking.{count_looked, looked_at, looked_in, named_at, number_looked, right_in, slot_of}
 use Rattle.rules.specs.Records.{packed_run}
@@ -41,13 +42,13 @@ use Rattle.asking.proofs.Finding.{named_last, named_turn, named_upto}
 use Rattle.asking.proofs.Sources.{past_source}
 use Rattle.rules.specs.declared.Run.{Run}
 use Rattle.asking.specs.declared.Step.{Step}
-use Rattle.rules.specs.declared.Stepped.{Stepped}
+use Rattle.rules.specs.Records.{RunAnswer}
 use Rattle.rules.proofs.Runs.{clauses_is, constants_is, fine, kept_small, version_is}
 use Rattle.rules.proofs.Steps.{answered_as, answers_as, decide_step, handed_as}
-use Rattle.steps.specs.Records.{file_answer, outline_answer, outline_of, step_there}
+use Rattle.steps.specs.Records.{decision, file_answer, outline, packed_step, record_of, step_there, without_atoms}
 use Rattle.steps.specs.declared.Outline.{Outline}
-use Rattle.steps.specs.declared.OutlineRead.{OutlineRead}
 use Rattle.steps.proofs.Files.{Ahead, Reads, Stepping, file_reads, step_ahead}
+use Rattle.steps.proofs.Decisions.{decision_whole, outline_told}
 use Rattle.state.specs.States.{new_run, packed_table, table_after}
 use Rattle.state.proofs.Table.{found, looks_at_lem, table_after_lem}
 use Rattle.text.specs.Text.{Wrote}
@@ -58,9 +59,10 @@ use Rattle.listing.specs.Records.{name_of}
 use Rattle.listing.specs.Listing.{TriedWith, went, refused, through}
 use Rattle.listing.proofs.Lines.{length_accepted, length_refused, names_rule}
 use Rattle.trail.specs.Entries.{past_end}
-use Rattle.trying.specs.Running.{place_of, text_beneath}
+use Rattle.trying.specs.Running.{text_beneath}
 use Rattle.trying.specs.Texts.{beneath, most_beneath, most_text}
 use Rattle.trying.proofs.Numbers.{told_beneath}
+use Rattle.trying.proofs.Outlines.{rule_told}
 
 -- The most bytes of a step's line and what stands beneath it
 abbrev pub most_of : Bool → ℕ
@@ -109,17 +111,17 @@ ran_as {numbered} {s} {d} {run = run} {table} ran e a k p = transport⁻¹ (λ i
 
 -- ---- before the first step
 
-pub start : (numbered : Bool) (s d : List ℕ) (h : HeaderRead) (first : ℕ) {run : Run} {table : List Clause} → h ≡ file_answer s → h.at ≡ C.At first
+pub start : (numbered : Bool) (s d : List ℕ) (h : Header) (first : ℕ) {run : Run} {table : List Clause} → got h first ≡ file_answer s
     → run ≡ new_run h.version h.constants h.input → table ≡ exactly most_clauses (packed calculus.no_clause) (map packed (input_of (header s 0))) → SoFar numbered s d h.version h.steps d run table first 0 0
 unfolding packed_table
-start numbered s d h first {run} {table} e q r t = record {
+start numbered s d h first {run} {table} e r t = record {
   says = F;
   next = f.next;
   is = f.is;
   others = F.steps;
   ahead = subst (λ (v : Version). Ahead s (form_of v) first F.steps) (sym header_version) f.ahead;
-  count = omega (arith, ap (λ (k : HeaderRead). k.steps) f.head);
-  few = omega (arith, ap (λ (k : HeaderRead). k.steps) f.head, f.sayable.few_steps);
+  count = omega (arith, ap (λ (k : Header). k.steps) f.head);
+  few = omega (arith, ap (λ (k : Header). k.steps) f.head, f.sayable.few_steps);
   state = opened F;
   run_of = record { reached = admitted_reached (plain whole) (opened F) f.sayable.admitted; is = r ∙ (λ i. new_run (f.head i).version (f.head i).constants (f.head i).input) };
   of_version = header_version;
@@ -131,15 +133,23 @@ start numbered s d h first {run} {table} e q r t = record {
 }
   where
     f : Reads s h first
-    f = file_reads s h e first q
+    f = file_reads s h first e
 
     F : File
     F = f.says
 
     header_version : h.version ≡ F.version
-    header_version = ap (λ (k : HeaderRead). k.version) f.head
+    header_version = ap (λ (k : Header). k.version) f.head
 
 -- ---- a turn
+
+-- The outline of a step that is read is read, to where the step ends.
+next_is : (s : List ℕ) (f : Form) (i : ℕ) {x : states.Step} {next : ℕ} → step f s i ≡ got x next → {o : Step} {past : ℕ} → got o past ≡ outline f s i → past ≡ next
+next_is s f i {x} {next} reads {o} {past} e = let w : got o past ≡ got (without_atoms (packed_step x)) next = rw reads at e in cc
+
+-- Where it is the outline of a Decide, the whole of it is that of the step.
+pub whole_told : (f : Form) (s : List ℕ) (i : ℕ) (o : Outline) → record_of o ≡ without_atoms (step_there (step f s i)) → o.rule ≡ rules.Decide → {x : Step} → x ≡ step_there (decision f s i) → x ≡ step_there (step f s i)
+whole_told f s i o read rule e = e ∙ decision_whole f s i (rule_told (step_there (step f s i)) o read rule)
 
 -- No step changes the version.
 next_version : (s : states.State) (x : states.Step) → (next s x).version ≡ s.version
@@ -194,6 +204,14 @@ module _ {numbered : Bool} {s d d' : List ℕ} {version : Version} {n cursor at 
   run_version : version ≡ run.version
   run_version = S.of_version ∙ sym (version_is S.run_of)
 
+  -- The step to be tried is read.
+  ahead_now : j < n → Stepping s (form_of version) cursor S.others
+  ahead_now h = step_ahead s (form_of version) cursor S.others S.ahead (omega (arith, S.count))
+
+  -- So its outline is not refused.
+  pub never_refused : j < n → {form : Form} → form ≡ form_of version → {k p : ℕ} → bad k p ≡ outline form s cursor → ⊥
+  never_refused h {form} form-is {k} {p} e = let now = ahead_now h in no_value (rw (form-is, now.reads) at e)
+
   -- The atoms of the Decide y are looked at, m of them: one turn more of the loop over them
   pub finds_more : (y : Step) {m : ℕ} → m ≡ count_looked version y → (i : ℕ) → i < m → length y.atoms ≡ most_brought → {k : ℕ} {q : Looked} {right b right' : Bool} {az : List Atom} {a : Atom}
       → k ≡ slot_of (get_or y.atoms i past_source).clause → q ≡ looked_in (get_or y.atoms i past_source).clause (get_or table k past_table)
@@ -204,27 +222,27 @@ module _ {numbered : Bool} {s d d' : List ℕ} {version : Version} {n cursor at 
       named_turn z (fine R).limited table (found R is past_table) y i (constants_is R) (clauses_is R)
       (omega (arith, count, ap (λ (v : Version). count_looked v y) (run_version ∙ version_is R))) long slot looked right_is so atom (found_before z R is)
 
-  -- The outline o of the step x was read, and of the clause table it looks at q.
-  module _ (x : Step) {o : Outline} (read : o ≡ outline_of x)
-      {e c k : ℕ} {q : Looked} (last : e ≡ run.length - 1) (number : c ≡ number_looked (get_or run.trail e past_end) o.rule o.clause) (slot : k ≡ slot_of c) (looked : q ≡ looked_in c (get_or table k past_table)) where
+  -- The outline o of the step x was read, r is its rule's number, and of the clause table it looks at q.
+  module _ (x : Step) (o : Outline) (read : record_of o ≡ without_atoms x) {r : ℕ} (numbered_so : r ≡ rule_number o.rule)
+      {e c k : ℕ} {q : Looked} (last : e ≡ run.length - 1) (number : c ≡ number_looked (get_or run.trail e past_end) r o.clause) (slot : k ≡ slot_of c) (looked : q ≡ looked_in c (get_or table k past_table)) where
     looks : q ≡ looked_at S.state (step_of x)
-    looks = looks_at_lem S.run_of S.table_is x last (number ∙ (λ i. number_looked (get_or run.trail e past_end) (read i).rule (read i).clause)) slot looked
+    looks = looks_at_lem S.run_of S.table_is x last (number ∙ ap (λ (m : ℕ). number_looked (get_or run.trail e past_end) m o.clause) numbered_so ∙ (λ i. number_looked (get_or run.trail e past_end) (read i).rule (read i).clause)) slot looked
 
     -- What its rule is handed, and what it answers; y is the step as the rule has it.
     module _ {y : states.Step} (is : step_of x ≡ y) where
       pub handed : Handed run q y
       handed = handed_as is (S.state, S.run_of, looks)
 
-      pub told_looked : {a b : Stepped} → a ≡ b → Answered run q y b → Told S.state (step_of x) a
+      pub told_looked : {a b : RunAnswer} → a ≡ b → Answered run q y b → Told S.state (step_of x) a
       told_looked p answered = answered_as is p answered S.state S.run_of looks
 
-      pub told_alone : {a b : Stepped} → a ≡ b → Answers run y b → Told S.state (step_of x) a
+      pub told_alone : {a b : RunAnswer} → a ≡ b → Answers run y b → Told S.state (step_of x) a
       told_alone p answers = answers_as is p answers S.state S.run_of looks
 
     -- The Decide y was read of it, and the last turn over its atoms is over.
-    module _ (y : Step) (same : y ≡ x) (rule : o.rule ≡ 2) {m i : ℕ} (count : m ≡ count_looked version y) (over : m ≤ i) {named : Named} (names : Finds run table y i named) where
+    module _ (y : Step) (same : y ≡ x) (rule : o.rule ≡ rules.Decide) {m i : ℕ} (count : m ≡ count_looked version y) (over : m ≤ i) {named : Named} (names : Finds run table y i named) where
       decides : step_of y ≡ decide_of y
-      decides = decide_step y (ap (λ (z : Step). z.rule) same ∙ sym (ap (λ (z : Outline). z.rule) read) ∙ rule)
+      decides = decide_step y (ap (λ (z : Step). z.rule) same ∙ rule_told x o read rule)
 
       is : step_of x ≡ decide_of y
       is = ap step_of (sym same) ∙ decides
@@ -238,26 +256,26 @@ module _ {numbered : Bool} {s d d' : List ℕ} {version : Version} {n cursor at 
       pub handed_named : HandedNamed run q named (decide_of y)
       handed_named = (S.state, S.run_of, looks-so, named-is)
 
-      pub told_named : {a b : Stepped} → a ≡ b → AnsweredNamed run q named (decide_of y) b → Told S.state (step_of x) a
+      pub told_named : {a b : RunAnswer} → a ≡ b → AnsweredNamed run q named (decide_of y) b → Told S.state (step_of x) a
       told_named p answered = transport⁻¹ (λ i. Told S.state (is i) (p i)) (answered S.state S.run_of looks-so named-is)
 
-  -- The step x was read, its outline being r, and answered by a.
-  module _ (h : j < n) {form : Form} (form-is : form ≡ form_of version) {r : OutlineRead} (e : r ≡ outline_answer (step form s cursor))
-      {a : Stepped} (told : Told S.state (step_of (step_there (step form s cursor))) a) where
+  -- The step x was read, its outline being o and its rule's number r, and answered by a.
+  module _ (h : j < n) {form : Form} (form-is : form ≡ form_of version) (o : Outline) {past : ℕ} (e : got (record_of o) past ≡ outline form s cursor) {r : ℕ} (numbered_so : r ≡ rule_number o.rule)
+      {a : RunAnswer} (told : Told S.state (step_of (step_there (step form s cursor))) a) where
     abbrev x : states.Step
     x = step_of (step_there (step form s cursor))
 
     now : Stepping s (form_of version) cursor S.others
-    now = step_ahead s (form_of version) cursor S.others S.ahead (omega (arith, S.count))
+    now = ahead_now h
 
     others_is : x ∷ now.others ≡ S.others
     others_is = ap (λ (y : states.Step). y ∷ now.others) (ap (λ (f : Form). step_of (step_there (step f s cursor))) form-is ∙ now.says) ∙ sym now.all
 
-    past_is : place_of r.at ≡ now.next
-    past_is = ap (λ (q : OutlineRead). place_of q.at) e ∙ ap (λ (f : Form). place_of (reached (step f s cursor))) form-is ∙ ap place_of now.at
+    past_is : past ≡ now.next
+    past_is = next_is s (form_of version) cursor now.reads (rw form-is at e)
 
-    name_is : name_of r.outline.rule ≡ rule_name x
-    name_is = ap (λ (q : OutlineRead). name_of q.outline.rule) e ∙ names_rule (step_there (step form s cursor))
+    name_is : name_of r ≡ rule_name x
+    name_is = ap name_of numbered_so ∙ ap (λ (q : Step). name_of q.rule) (outline_told s form cursor o e) ∙ names_rule (step_there (step form s cursor))
 
     abbrev b : Answer
     b = told.0
@@ -266,10 +284,10 @@ module _ {numbered : Bool} {s d d' : List ℕ} {version : Version} {n cursor at 
     next_reached = steps_keep_reached (plain whole) S.state x b S.run_of.reached told.2
 
     number_is : a.number ≡ b.number
-    number_is = ap (λ (q : Stepped). q.number) told.4
+    number_is = ap (λ (q : RunAnswer). q.number) told.4
 
     -- A refused step: its line is the last, and nothing more is tried; run and table are as they were.
-    pub stop : ¬ (a.number ≡ 0) → {d₂ : List ℕ} {at₂ : ℕ} → Wrote d' at (refused_line (j + 1) (name_of r.outline.rule) a.number) d₂ at₂
+    pub stop : ¬ (a.number ≡ 0) → {d₂ : List ℕ} {at₂ : ℕ} → Wrote d' at (refused_line (j + 1) (name_of r) a.number) d₂ at₂
         → Ran numbered s d d₂ run table a.number a.place at₂
     stop z {d₂} {at₂} w = record {
       says = S.says;
@@ -286,7 +304,7 @@ module _ {numbered : Bool} {s d d' : List ℕ} {version : Version} {n cursor at 
       run_is = S.run_of.is ∙ ap packed_run (sym back);
       table_is = S.table_is ∙ ap (λ (q : states.State). packed_table (clauses q)) (sym back);
       number_is = number_is;
-      place_is = ap (λ (q : Stepped). q.place) told.4;
+      place_is = ap (λ (q : RunAnswer). q.place) told.4;
       reached = next_reached;
     }
       where
@@ -302,9 +320,9 @@ module _ {numbered : Bool} {s d d' : List ℕ} {version : Version} {n cursor at 
     -- The record of the next state, and how long the step's line is
     module _ {run₂ : Run} (ran : run₂ ≡ a.run) where
       run-next : RunOf run₂ b.state
-      run-next = record { reached = next_reached; is = ran ∙ ap (λ (q : Stepped). q.run) told.4 }
+      run-next = record { reached = next_reached; is = ran ∙ ap (λ (q : RunAnswer). q.run) told.4 }
 
-      line-length : length (accepted_line (j + 1) (name_of r.outline.rule) run₂.length run₂.level) ≤ most_line
+      line-length : length (accepted_line (j + 1) (name_of r) run₂.length run₂.level) ≤ most_line
       line-length =
           let small = kept_small (b.state, run-next) in
           subst (λ (name : List ℕ). length (accepted_line (j + 1) name run₂.length run₂.level) ≤ most_line) (sym name_is)
@@ -315,21 +333,21 @@ module _ {numbered : Bool} {s d d' : List ℕ} {version : Version} {n cursor at 
 
     -- Beneath it there is room.
     pub beneath_fits : (shown : Bool) → most_text numbered shown ≤ length d → {run₂ : Run} → run₂ ≡ a.run
-        → {d₁ : List ℕ} {at₁ : ℕ} → Wrote d' at (accepted_line (j + 1) (name_of r.outline.rule) run₂.length run₂.level) d₁ at₁
+        → {d₁ : List ℕ} {at₁ : ℕ} → Wrote d' at (accepted_line (j + 1) (name_of r) run₂.length run₂.level) d₁ at₁
         → (run.constants ≤ most_constants) × (at₁ + most_beneath numbered ≤ length d₁)
     beneath_fits shown room ran w = (few_constants, omega (arith, step_room h shown room, line-length ran, w.next, same_long w))
 
     -- An accepted one: its line follows the others, and beneath it what it handed on; what it learned stands in the table.
     pub turn : a.number ≡ 0 → {run₂ : Run} → run₂ ≡ a.run → {table₂ : List Clause} → table₂ ≡ table_after table run a
-        → {d₁ d₂ : List ℕ} {at₁ at₂ : ℕ} → Wrote d' at (accepted_line (j + 1) (name_of r.outline.rule) run₂.length run₂.level) d₁ at₁
-        → Put (most_beneath numbered) d₁ at₁ (text_beneath numbered run.constants a.witness) d₂ at₂ → {cursor₂ : ℕ} → cursor₂ ≡ place_of r.at
-        → SoFar numbered s d version n d₂ run₂ table₂ cursor₂ at₂ (j + 1)
-    turn z {run₂} ran {table₂} table-new w u past = record {
+        → {d₁ d₂ : List ℕ} {at₁ at₂ : ℕ} → Wrote d' at (accepted_line (j + 1) (name_of r) run₂.length run₂.level) d₁ at₁
+        → Put (most_beneath numbered) d₁ at₁ (text_beneath numbered run.constants a.witness) d₂ at₂
+        → SoFar numbered s d version n d₂ run₂ table₂ past at₂ (j + 1)
+    turn z {run₂} ran {table₂} table-new w u = record {
       says = S.says;
       next = S.next;
       is = S.is;
       others = now.others;
-      ahead = subst (λ (i : ℕ). Ahead s (form_of version) i now.others) (sym (past ∙ past_is)) now.ahead;
+      ahead = subst (λ (i : ℕ). Ahead s (form_of version) i now.others) (sym past_is) now.ahead;
       count = omega (arith, S.count, ap length now.all);
       few = S.few;
       state = b.state;
@@ -350,7 +368,7 @@ module _ {numbered : Bool} {s d d' : List ℕ} {version : Version} {n cursor at 
         under = text_beneath numbered run.constants a.witness
 
         stands-beneath : beneath numbered S.state x under
-        stands-beneath = told_beneath S.state (omega (arith, few_constants, constants_is S.run_of)) x numbered told.1 told.3 (sym number_is ∙ z) (constants_is S.run_of) (ap (λ (q : Stepped). q.witness) told.4)
+        stands-beneath = told_beneath S.state (omega (arith, few_constants, constants_is S.run_of)) x numbered told.1 told.3 (sym number_is ∙ z) (constants_is S.run_of) (ap (λ (q : RunAnswer). q.witness) told.4)
 
         grouped : (v : List ℕ) → S.lines ++ (line b.state ++ (under ++ v)) ≡ (S.lines ++ (line b.state ++ under)) ++ v
         grouped v = simp append_assoc

@@ -1,11 +1,8 @@
--- What trying the steps of a file writes, and what stands beneath a step's line by the record of what was handed on; where a cursor stands.
-use Rattle.std.specs.Prelude.{Bool, true, false, cond, ◌≡◌, List, [], ◌++◌, ℕ, ◌≤◌, take}
+-- What trying the steps of a file writes, and what stands beneath a step's line by what was handed on.
+use Rattle.std.specs.Prelude.{Bool, true, false, ◌≡◌, List, [], ◌++◌, ℕ, ◌≤◌, take, Option, None, Some, ℤ}
 use Rattle.basis.specs.Numbers.{whole}
-use Rattle.basis.specs.declared.Witness.{Witness}
 use Rattle.calculus.specs.Rules.{Answer}
 use Rattle.calculus.specs.Runs.{plain}
-use Rattle.fields.specs.declared.Cursor.{Cursor}
-use Rattle.fields.specs.declared.Cursor.TheVariants as C
 use Rattle.inspection.specs.NumbersText.{numbers_line}
 use Rattle.listing.specs.Listing.{TriedWith}
 use Rattle.runfile.specs.Readers.{got}
@@ -14,14 +11,10 @@ use Rattle.text.specs.Text.{Wrote}
 use Rattle.trying.specs.Texts.{beneath, ending, most_text}
 use Rattle.trying.specs.declared.Ended.{Ended}
 
--- The place at which a cursor stands, or at which it was refused
-abbrev pub place_of : Cursor → ℕ
-place_of (C.At i) = i
-place_of (C.Refused n p) = p
-
--- What stands beneath the line of an accepted step, of the witness record that it handed on, where there were so many constants
-abbrev pub text_beneath : Bool → (constants : ℕ) → Witness → List ℕ
-text_beneath true constants w = cond w.given (numbers_line (take constants w.numbers)) []
+-- What stands beneath the line of an accepted step, of the numbers that it handed on, if it did, where there were so many constants
+abbrev pub text_beneath : Bool → (constants : ℕ) → Option (List ℤ) → List ℕ
+text_beneath true constants (Some numbers) = numbers_line (take constants numbers)
+text_beneath true constants None = []
 text_beneath false constants w = []
 
 -- "One line per step tried .. It stops at a refused step." The steps of the file s were tried from the state on that its header makes; number

@@ -1,8 +1,8 @@
 -- What the words of a command line ask for. They come in any order, and one given twice counts once. Where one is none of the program's, the
 -- program prints one line, `unknown word` and the position of the first such, from 1, and judges nothing. `numbers` is a word of `inspect` alone.
-use Rattle.std.specs.Prelude.{◌≡◌, ◌↔◌, Bool, false, ◌||◌, cond, ℕ, ◌+◌, ◌-◌, ◌≤◌, ◌<◌, T, eqb, get_or, length}
+use Rattle.std.specs.Prelude.{◌≡◌, ◌↔◌, Bool, false, ◌||◌, cond, Result, Ok, Err, IsOk, ℕ, ◌+◌, ◌-◌, ◌≤◌, ◌<◌, T, get_or, length}
 use mathlib.Core.List.{List, Memᴰ, [], ◌∷◌, ◌++◌}
-use Rattle.lists.specs.Lists.{same_list}
+use Rattle.std.specs.Str.{bytes_eq}
 use Rattle.text.specs.Text.{bytes, decimal}
 use Rattle.words.specs.declared.Program.{Program}
 use Rattle.words.specs.declared.Program.TheVariants.{Judge, Inspect}
@@ -10,7 +10,7 @@ use Rattle.words.specs.declared.Words.{Words}
 
 -- The word `numbers`
 abbrev pub is_numbers : List ℕ → Bool
-is_numbers w = same_list w (bytes "numbers")
+is_numbers w = bytes_eq w (bytes "numbers")
 
 -- The words of each program
 abbrev pub known : Program → List ℕ → Bool
@@ -26,38 +26,36 @@ abbrev pub KnownFit : Type 0
 KnownFit = (p : Program) (w : List ℕ) → T (known p w) → (1 ≤ length w) × (length w ≤ most_word)
 
 -- Before the first word
-abbrev pub no_words : Words
-no_words = record { numbers = false; unknown = 0 }
+abbrev pub no_words : Result Words ℕ
+no_words = Ok (record { numbers = false })
 
--- One word more, at its position: a known one asks for what it says, and the first unknown one is noted. After that nothing is.
-abbrev pub with_word : Program → Words → (position : ℕ) → List ℕ → Words
-with_word p q k w =
-    cond (eqb q.unknown 0)
-    (cond (known p w) (record { numbers = q.numbers || is_numbers w; unknown = 0 }) (record { numbers = q.numbers; unknown = k }))
-    q
+-- One word more, at its position: a known one asks for what it says, and of the first unknown one the position is noted. After that nothing is.
+abbrev pub with_word : Program → Result Words ℕ → (position : ℕ) → List ℕ → Result Words ℕ
+with_word p (Ok q) k w = cond (known p w) (Ok (record { numbers = q.numbers || is_numbers w })) (Err k)
+with_word p (Err u) k w = Err u
 
 -- Words one after the other, the first of them at position k
-abbrev pub words_from : Program → Words → (position : ℕ) → List (List ℕ) → Words
+abbrev pub words_from : Program → Result Words ℕ → (position : ℕ) → List (List ℕ) → Result Words ℕ
 words_from p q k [] = q
 words_from p q k (w ∷ ws) = words_from p (with_word p q k w) (k + 1) ws
 
 -- What the words of a command line ask for
-abbrev pub asked_by : Program → List (List ℕ) → Words
+abbrev pub asked_by : Program → List (List ℕ) → Result Words ℕ
 asked_by p ws = words_from p no_words 1 ws
 
 -- All are known, and numbers are asked for exactly if the word is among them, wherever and how often; or the first unknown one is at that position.
-pub record Asks (p : Program) (ws : List (List ℕ)) (q : Words) : Type 0 where
-  pub all_known : (q.unknown ≡ 0) ↔ ((w : List ℕ) → Memᴰ w ws → T (known p w))
-  pub numbers : q.unknown ≡ 0 → T q.numbers ↔ Memᴰ (bytes "numbers") ws
-  pub first_unknown : 1 ≤ q.unknown
-      → (q.unknown ≤ length ws) × (¬ T (known p (get_or ws (q.unknown - 1) []))) × ((i : ℕ) → 1 ≤ i → i < q.unknown → T (known p (get_or ws (i - 1) [])))
+pub record Asks (p : Program) (ws : List (List ℕ)) (q : Result Words ℕ) : Type 0 where
+  pub all_known : IsOk q ↔ ((w : List ℕ) → Memᴰ w ws → T (known p w))
+  pub numbers : (a : Words) → q ≡ Ok a → T a.numbers ↔ Memᴰ (bytes "numbers") ws
+  pub first_unknown : (k : ℕ) → q ≡ Err k
+      → (1 ≤ k) × (k ≤ length ws) × (¬ T (known p (get_or ws (k - 1) []))) × ((i : ℕ) → 1 ≤ i → i < k → T (known p (get_or ws (i - 1) [])))
 
 -- Proved in proofs/Asked.antt, as is what follows: the same words, in any order and as often as one likes, ask for the same.
 abbrev pub WordsAsk : Type 0
 WordsAsk = (p : Program) (ws : List (List ℕ)) → Asks p ws (asked_by p ws)
 
 abbrev pub SameWordsAskAlike : Type 0
-SameWordsAskAlike = (p : Program) (vs ws : List (List ℕ)) → ((w : List ℕ) → Memᴰ w vs ↔ Memᴰ w ws) → (asked_by p vs).unknown ≡ 0 → asked_by p vs ≡ asked_by p ws
+SameWordsAskAlike = (p : Program) (vs ws : List (List ℕ)) → ((w : List ℕ) → Memᴰ w vs ↔ Memᴰ w ws) → IsOk (asked_by p vs) → asked_by p vs ≡ asked_by p ws
 
 -- The line that names an unknown word
 unfoldable pub unknown_line : (position : ℕ) → List ℕ

@@ -2,24 +2,22 @@
 #![tactic(auto)]
 
 ghost use Rattle.std.specs.Prelude.{◌≡◌, ◌≤◌, length};
-ghost use Rattle.lists.specs.Lists.{same_list};
 ghost use Rattle.text.specs.Text.{Wrote};
-ghost use Rattle.words.specs.Words.{known, most_unknown, no_words, unknown_line, with_word};
+ghost use Rattle.words.specs.Words.{is_numbers, known, most_unknown, no_words, unknown_line, with_word};
 
 use text::{put_byte, put_decimal, put_word};
 
 // The programs that take words
-#[derive(Clone, Copy)]
+#[derive(Clone, Copy, PartialEq, Eq)]
 pub enum Program {
     Judge,
     Inspect,
 }
 
-// What the words given so far ask for; and the position of the first that the program does not know, from 1, or 0
-#[derive(Clone, Copy)]
+// What the words given so far ask for, where the program knows them all
+#[derive(Clone, Copy, PartialEq, Eq)]
 pub struct Words {
     pub numbers: bool,
-    pub unknown: usize,
 }
 
 // No word of a program has more bytes.
@@ -28,31 +26,18 @@ pub const MOST_WORD: usize = 7;
 // No line that names an unknown word has more.
 pub const MOST_UNKNOWN: usize = 34;
 
-// Whether the two are the same, byte for byte
-fn same_word(a: &[u8], b: &[u8]) -> bool
-    ensures { result ≡ same_list a.now b.now }
-{
-    if a.len() != b.len() {
-        return false;
-    }
-    let mut j: usize = 0;
-    while j < a.len() {
-        if a[j] != b[j] {
-            return false;
-        }
-        j += 1;
-    }
-    true
-}
-
 // Before the first word
-pub fn no_words() -> Words
+pub fn no_words() -> Result<Words, usize>
     ensures { result ≡ no_words }
 {
-    Words {
-        numbers: false,
-        unknown: 0,
-    }
+    Ok(Words { numbers: false })
+}
+
+// Whether the word is `numbers`
+fn is_numbers(word: &[u8]) -> bool
+    ensures { result ≡ is_numbers word.now }
+{
+    word == b"numbers".as_slice()
 }
 
 // Whether the program knows the word
@@ -61,27 +46,26 @@ fn is_known(program: Program, word: &[u8]) -> bool
 {
     match program {
         Program::Judge => false,
-        Program::Inspect => same_word(word, b"numbers"),
+        Program::Inspect => is_numbers(word),
     }
 }
 
-// One word more, at its position
-pub fn with_word(program: Program, words: Words, position: usize, word: &[u8]) -> Words
+// One word more, at its position; or the position, from 1, of the first that the program does not know
+pub fn with_word(
+    program: Program,
+    words: Result<Words, usize>,
+    position: usize,
+    word: &[u8],
+) -> Result<Words, usize>
     ensures { result ≡ with_word program words position word.now }
 {
-    if words.unknown != 0 {
-        return words;
+    let words = words?;
+    if !is_known(program, word) {
+        return Err(position);
     }
-    if is_known(program, word) {
-        return Words {
-            numbers: words.numbers || same_word(word, b"numbers"),
-            unknown: 0,
-        };
-    }
-    Words {
-        numbers: words.numbers,
-        unknown: position,
-    }
+    Ok(Words {
+        numbers: words.numbers || is_numbers(word),
+    })
 }
 
 // The line that names an unknown word
@@ -89,7 +73,7 @@ pub fn put_unknown(out: &mut [u8], position: usize) -> usize
     requires { most_unknown ≤ length out.old }
     ensures { Wrote out.old 0 (unknown_line position) out.new result }
 {
-    let words = put_word(out, 0, b"unknown word ");
-    let number = put_decimal(out, words, position);
-    put_byte(out, number, b'\n')
+    let at = put_word(out, 0, b"unknown word ");
+    let at = put_decimal(out, at, position);
+    put_byte(out, at, b'\n')
 }

@@ -1,33 +1,23 @@
--- `admission::clean_literals` meets its contract.
--- The invariant: what is made so far is what the definition makes of the elements passed; the measure: how many are left.
-use mathlib.Core.Path.{◌≡◌, sym, ◌∙◌, ap, ap₂}
-use mathlib.Core.List.{List, map}
-use Prim.Native.Nat.{◌≤◌}
-use native.Mathlib.Omega.{arith}
-use lib.ListN.{length, set}
+-- Each literal is as it is read.
+use Rattle.std.proofs.Common.{◌≡◌, ◌∙◌, ap, ap₂, List, ◌+◌, ◌<◌, ℕ, arith, get_or, length, map, set, take, drop, length-take}
+use lib.ListN.{length-map}
+use lib.Seq.{get_or-append-add, get_or-drop}
 use Rattle.basis.specs.declared.Literal.{Literal}
-use Rattle.lists.specs.Arrays.{exactly}
-use Rattle.lists.proofs.Arrays.{exactly_none, exactly_take, mapped_turn}
+use Rattle.lists.proofs.Arrays.{each_turn}
 use Rattle.calculus.specs.Clauses.{no_literal}
-use Rattle.admission.specs.Offered.{offered_arities, cleaned}
+use Rattle.admission.specs.Offered.{cleaned}
 use Rattle.admission.proofs.clean_literals.Goals as goal
 
-pub loop-j-init : goal.loop-j-init
-loop-j-init c = (omega arith, rw c.no_literal-blank.ensures (sym (exactly_none no_literal 8)))
-
-pub loop-j-preserved : goal.loop-j-preserved
-loop-j-preserved c =
-    let a = c.args in
-    let s = c.loop-j in (
-      omega arith,
-      ap₂ (λ (l : List Literal) (x : Literal). set l s.j x) s.invariant.1 c.clean_literal-m.ensures
-          ∙ mapped_turn (cleaned (offered_arities a.predicates a.arities)) 8 no_literal no_literal a.c.literals s.j (omega arith) (omega arith),
-    )
-
-pub returns : goal.returns
-returns c =
-    let a = c.args in
-    let n = c.literals_of-n in
-    let e : c.loop-j.j ≡ n.result = omega arith in
-    let h : a.c.literalcount ≤ length a.c.literals = omega arith in
-    rw e at c.loop-j.invariant.1 ∙ ap (λ (l : List Literal). exactly 8 no_literal (map (cleaned (offered_arities a.predicates a.arities)) l)) (n.ensures.same ∙ sym (exactly_take no_literal a.c.literalcount a.c.literals h))
+pub loop-l-preserved : goal.loop-l-preserved
+loop-l-preserved c =
+    let s = c.loop-l in
+    let f = cleaned c.args.arities.now in
+    let ls = c.args.literals in
+    let j = s.l-index in
+    let inside : j < length ls = omega (arith, s.invariant.0) in
+    let passed : j ≡ length (map f (take j ls)) + 0 = omega (arith, length-map (take j ls) f, length-take j ls) in
+    let none : j + 0 ≡ j = omega arith in
+    let here : get_or s.l-items j no_literal ≡ get_or ls j no_literal =
+    ap₂ (λ (l : List Literal) (i : ℕ). get_or l i no_literal) s.invariant.1 passed ∙ get_or-append-add (map f (take j ls)) (drop j ls) 0 no_literal ∙ get_or-drop j ls 0 no_literal
+    ∙ ap (λ (i : ℕ). get_or ls i no_literal) none in
+    (s.invariant.0, ap₂ (λ (l : List Literal) (x : Literal). set l j x) s.invariant.1 (c.clean_literal.ensures ∙ ap f here) ∙ each_turn f ls j no_literal inside)

@@ -3,11 +3,7 @@ use Rattle.asking.proofs.Sources.{denied_so, stands_so}
 use Rattle.asking.proofs.source_atom.Goals as goal
 
 pub returns-then-z-eq1 : goal.returns-then-z-eq1
-returns-then-z-eq1 c =
-    let at = c in
-    stands_so at.args.held at.args.z at.atom_numbered-a.ensures at.ground_atom-g.ensures c.if-z-eq1.true
+returns-then-z-eq1 c = stands_so c.args.held c.args.z c.atom_numbered-own.ensures (rw c.constants.ensures at c.ground_atom-g.ensures) c.if-z-eq1.true
 
-pub returns : goal.returns
-returns c =
-    let at = c in
-    denied_so at.args.held at.args.z at.atom_numbered-a.ensures at.ground_atom-g.ensures c.if-z-eq1.false c.denial.ensures
+pub returns-else-z-eq1 : goal.returns-else-z-eq1
+returns-else-z-eq1 c = denied_so c.args.held c.args.z c.atom_numbered-own.ensures (rw c.constants.ensures at c.ground_atom-g.ensures) c.if-z-eq1.false c.denial.ensures

@@ -1,11 +1,8 @@
 -- The loop writes the atoms in turn.
-use Prim.Native.Nat.{◌≤◌, ◌-◌}
-use Rattle.runfile.specs.Written.{written_atom}
-use Rattle.clausebytes.proofs.Members.{Joined}
+use Rattle.std.proofs.Common.{take}
+use Rattle.text.specs.Text.{Wrote}
+use Rattle.runfile.specs.Written.{joined, written_atom}
 use Rattle.clausebytes.proofs.put_atoms.Given as goal
 
-abbrev pub invariant-loop-j : goal.invariant-loop-j
-invariant-loop-j l = (l.j ≤ l.n) × Joined written_atom l.c.atoms l.j l.initial.out l.at l.out l.next
-
-abbrev pub decreases-loop-j : goal.decreases-loop-j
-decreases-loop-j l = l.n - l.j
+abbrev pub invariant-loop-a : goal.invariant-loop-a
+invariant-loop-a l = Wrote l.initial.out l.at (joined written_atom (take l.a-index l.atoms)) l.out l.next

@@ -1,11 +1,11 @@
 -- The loop writes the literals in turn.
-use borrow.Author.Rules.{rules}
 use Rattle.calculus.specs.Clauses.{no_literal}
-use Rattle.clausebytes.proofs.Members.{room_for, one_more}
+use Rattle.runfile.specs.Written.{written_literal}
+use Rattle.clausebytes.proofs.Members.{one_more, room_for}
 use Rattle.clausebytes.proofs.put_literals.Goals as goal
 
 pub put_literal-next-requires : goal.put_literal-next-requires
-put_literal-next-requires c = room_for c.loop-j.invariant.1 c.literals_of-n.ensures no_literal c.loop-j-test.true (search rules)
+put_literal-next-requires c = room_for (written_literal c.args.arities.now) c.args.literals.now c.loop-l.l-index c.loop-l.invariant no_literal c.loop-l-test.true c.requires
 
-pub loop-j-preserved : goal.loop-j-preserved
-loop-j-preserved c = (search rules, one_more c.loop-j.invariant.1 c.literals_of-n.ensures no_literal c.loop-j-test.true (search rules) c.put_literal-next.ensures)
+pub loop-l-preserved : goal.loop-l-preserved
+loop-l-preserved c = one_more (written_literal c.args.arities.now) c.args.literals.now c.loop-l.l-index c.loop-l.invariant no_literal c.loop-l-test.true c.put_literal-next.ensures

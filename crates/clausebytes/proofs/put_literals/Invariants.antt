@@ -1,12 +1,8 @@
 -- The loop writes the literals in turn.
-use Prim.Native.Nat.{◌≤◌, ◌-◌}
-use Rattle.runfile.specs.Written.{written_literal}
-use Rattle.admission.specs.Offered.{offered_arities}
-use Rattle.clausebytes.proofs.Members.{Joined}
+use Rattle.std.proofs.Common.{take}
+use Rattle.text.specs.Text.{Wrote}
+use Rattle.runfile.specs.Written.{joined, written_literal}
 use Rattle.clausebytes.proofs.put_literals.Given as goal
 
-abbrev pub invariant-loop-j : goal.invariant-loop-j
-invariant-loop-j l = (l.j ≤ l.n) × Joined (written_literal (offered_arities l.predicates l.arities)) l.c.literals l.j l.initial.out l.at l.out l.next
-
-abbrev pub decreases-loop-j : goal.decreases-loop-j
-decreases-loop-j l = l.n - l.j
+abbrev pub invariant-loop-l : goal.invariant-loop-l
+invariant-loop-l l = Wrote l.initial.out l.at (joined (written_literal l.arities) (take l.l-index l.literals)) l.out l.next

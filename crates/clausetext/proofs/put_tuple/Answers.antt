@@ -6,4 +6,4 @@ use Rattle.clausetext.proofs.put_tuple.Goals as goal
 
 pub returns : goal.returns
 unfolding tuple_text
-returns c = record { wrote = and_then (and_then c.put_byte-a.ensures c.put_numbers-b.ensures.wrote) c.put_byte.ensures; room = search rules }
+returns c = record { wrote = and_then (and_then c.put_byte-open.ensures c.put_each-close.ensures.wrote) c.put_byte.ensures; room = search rules }

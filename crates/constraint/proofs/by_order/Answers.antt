@@ -16,8 +16,8 @@ returns-then-j-constants c =
     let a = c.args in
     difference_back a.i a.j (omega arith) (omega arith) ∙ sym (as_ordered a.constants a.i a.j c.if-i-gt0.true c.if-i-j-2.true c.if-j-constants.true)
 
-pub returns : goal.returns
-returns c =
+pub returns-else-i-gt0 : goal.returns-else-i-gt0
+returns-else-i-gt0 c =
     let a = c.args in
     -- Both counts together are at most 32.
     let few : c.stand_after.result + c.stand_before.result ≤ 32 = omega (arith, after_most a.constants a.i, before_most a.constants a.j) in

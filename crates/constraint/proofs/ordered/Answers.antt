@@ -5,4 +5,4 @@ use Rattle.constraint.proofs.Start.{order_stands}
 use Rattle.constraint.proofs.ordered.Goals as goal
 
 pub returns : goal.returns
-returns c = order_stands _ (search rules) _ (λ i j hi hj. c.loop-i.invariant.2.done i (omega arith) j hj)
+returns c = order_stands _ (search rules) _ (λ i j hi hj. c.loop-i.invariant.done i (omega arith) j hj)

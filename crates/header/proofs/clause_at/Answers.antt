@@ -1,16 +1,26 @@
--- `header::clause_at` meets its contract.
-use mathlib.Core.Path.{◌∙◌}
-use Rattle.clauses.specs.Records.{clause_of}
-use Rattle.header.specs.Records.{arities}
-use Rattle.header.proofs.Parts.{clause_held, clause_refused, judged_number}
+-- A clause whose fields are read, by what admission says of it
+use Rattle.std.proofs.Common.{◌∙◌, ap}
+use Rattle.std.proofs.lemmas.Result.{err_from_is_err_and}
+use Rattle.admission.specs.Offered.{clause_answer}
+use Rattle.basis.specs.Refusals.{number_of}
+use Rattle.clauses.specs.Records.{packed}
+use Rattle.runfile.specs.File.{clause_fields}
+use Rattle.header.proofs.Loops.{seen_got}
+use Rattle.header.proofs.Parts.{clause_held, clause_none, clause_refused}
 use Rattle.header.proofs.clause_at.Goals as goal
 
-pub clause_fields_at-read-requires : goal.clause_fields_at-read-requires
-clause_fields_at-read-requires c = c.requires
+pub returns-in_err-clause : goal.returns-in_err-clause
+returns-in_err-clause c =
+    let p = err_from_is_err_and c.from_residual.result c.from_residual.ensures.1 in
+    let e = c.in_err-clause.field-0.0 in
+    rw (p.1, p.2) (clause_none c.args.arities.now c.args.s.now c.args.at (number_of e.refusal) e.place c.in_err-clause.ensures)
 
-pub returns-then-number-eq0 : goal.returns-then-number-eq0
-returns-then-number-eq0 c = (clause_held (arities c.args.ps) c.args.s.now c.clause_fields_at-read.result.clause c.clause_fields_at-read.ensures.1 c.args.at c.clause_fields_at-read.result.at c.clause_fields_at-read.ensures.0 (judged_number c.args.ps c.clause_fields_at-read.result.clause c.admit_clause-judged.result c.requires c.admit_clause-judged.ensures ∙ c.if-number-eq0.true), c.clause_fields_at-read.ensures.1)
+pub returns-in-Ok : goal.returns-in-Ok
+returns-in-Ok c =
+    let w = seen_got packed (clause_fields c.args.arities.now c.args.s.now c.args.at) c.in_ok-clause.clause c.in_ok-clause.next c.in_ok-clause.ensures in
+    clause_held c.args.arities.now c.args.s.now c.args.at c.in_ok-clause.next w.value w.is c.in-Ok.read (c.in-Ok.ensures ∙ ap (clause_answer c.args.arities.now) w.view_is)
 
-pub returns : goal.returns
-returns c =
-    (rw c.refuse.ensures (clause_refused (arities c.args.ps) c.args.s.now c.clause_fields_at-read.result.clause c.clause_fields_at-read.ensures.1 c.args.at c.clause_fields_at-read.result.at (clause_of c.clause_fields_at-read.result.clause) c.admit_clause-judged.result.number c.clause_fields_at-read.ensures.0 (judged_number c.args.ps c.clause_fields_at-read.result.clause c.admit_clause-judged.result c.requires c.admit_clause-judged.ensures) c.if-number-eq0.false), c.clause_fields_at-read.ensures.1)
+pub returns-in-Err : goal.returns-in-Err
+returns-in-Err c =
+    let w = seen_got packed (clause_fields c.args.arities.now c.args.s.now c.args.at) c.in_ok-clause.clause c.in_ok-clause.next c.in_ok-clause.ensures in
+    clause_refused c.args.arities.now c.args.s.now c.args.at c.in_ok-clause.next w.value w.is (number_of c.in-Err.refusal) (c.in-Err.ensures ∙ ap (clause_answer c.args.arities.now) w.view_is)

@@ -1,9 +1,16 @@
 -- Eight writers, one after the other.
-use native.Mathlib.Omega.{arith}
-use Rattle.text.proofs.Text.{and_then}
+use mathlib.Core.Path.{ap, ◌∙◌}
+use borrow.Author.Rules.{rules}
+use lib.ListN.{take}
+use Prim.Native.Nat.{ℕ}
+use Rattle.text.proofs.Text.{and_then, as_text}
+use Rattle.clausetext.specs.ClauseText.{tuple_text}
 use Rattle.inspection.specs.StateText.{source_text}
 use Rattle.inspection.proofs.put_source.Goals as goal
 
 pub returns : goal.returns
 unfolding source_text
-returns c = record { wrote = and_then (and_then (and_then (and_then (and_then (and_then (and_then c.put_word-word.ensures c.put_number-clause.ensures.wrote) c.put_byte-first.ensures) c.put_number-number.ensures.wrote) c.put_byte-second.ensures) c.put_number-sign.ensures.wrote) c.put_byte-third.ensures) c.put_instance.ensures.wrote; room = omega (arith, c.put_word-word.ensures.next, c.put_number-clause.ensures.room) }
+returns c =
+    let kept = c.prefix.ensures.first ∙ ap (λ (n : ℕ). take n c.args.e.instance) c.from.ensures in
+    let instance = as_text (ap tuple_text kept) c.put_tuple.ensures.wrote in
+    record { wrote = and_then (and_then (and_then (and_then (and_then (and_then (and_then c.put_word-word.ensures c.put_number-clause.ensures.wrote) c.put_byte-first.ensures) c.put_number-number.ensures.wrote) c.put_byte-second.ensures) c.put_number-sign.ensures.wrote) c.put_byte-third.ensures) instance; room = search rules }

@@ -1,28 +1,19 @@
--- The constants past the count made blank, from the last on.
-use mathlib.Core.Path.{◌≡◌, ◌∙◌, ap}
-use Prim.Native.Nat.{◌-◌}
+-- The constants copied stand in front of blanks.
+use mathlib.Core.Path.{◌∙◌, ◌≡◌, ap, ap₂}
+use mathlib.Core.List.{List, ◌++◌}
 use native.Mathlib.Omega.{arith}
-use lib.ListN.{set, take}
+use Prim.Native.Nat.{min, ℕ}
+use lib.ListN.{drop, length, length-take, replicate, take}
+use Rattle.std.proofs.lemmas.List.{take_min}
 use Rattle.basis.specs.Limits.{most_variables}
-use Rattle.lists.specs.Arrays.{exactly}
-use Rattle.instances.proofs.Constants.{blanked, whole_constants}
+use Rattle.instances.proofs.Constants.{blank_behind}
 use Rattle.instances.proofs.first_constants.Goals as goal
-
-pub loop-k-init : goal.loop-k-init
-loop-k-init c = (c.constants_of-n.ensures.few, omega arith, whole_constants _ c.constants_of-n.ensures.long)
-
-pub loop-k-preserved : goal.loop-k-preserved
-loop-k-preserved c =
-    let loop = c.loop-k in (
-      omega arith,
-      omega arith,
-      ap (λ r. set r (loop.k - 1) 0) loop.invariant.2
-          ∙ blanked c.args.instance loop.k (loop.k - 1) c.constants_of-n.ensures.long (omega arith) (omega arith),
-    )
 
 pub returns : goal.returns
 returns c =
-    let constants-of = c.constants_of-n in
-    let loop = c.loop-k in
-    let e : loop.k ≡ constants-of.result = omega arith in
-    loop.invariant.2 ∙ ap (exactly most_variables 0) (ap (λ k. take k c.args.instance) e ∙ constants-of.ensures.same)
+    let constants = c.args.instance.now in
+    let n : c.min-n.result ≡ min most_variables (length constants) = omega (arith, c.min-n.ensures) in
+    ap₂ (λ (l : List ℕ) (k : ℕ). l ++ drop k (replicate most_variables 0))
+    (c.copy_from_slice.ensures.after ∙ ap (λ k. take k constants) n ∙ take_min most_variables constants)
+    (omega (arith, n, length-take most_variables constants))
+    ∙ blank_behind 0 most_variables constants

@@ -8,4 +8,4 @@ pub returns-in-Exact : goal.returns-in-Exact
 returns-in-Exact c = rw c.in-Exact.is (sym (offered_long Exact _ _ c.requires.in_order ∙ exact_long _))
 
 pub returns-in-Approximate : goal.returns-in-Approximate
-returns-in-Approximate c = rw c.in-Approximate.is (sym (offered_long Approximate _ _ c.requires.in_order ∙ approximate_long _ c.if-n-eq0.false))
+returns-in-Approximate c = rw c.in-Approximate.is (c.saturating_sub.ensures ∙ sym (offered_long Approximate _ _ c.requires.in_order ∙ approximate_long _))

@@ -1,27 +1,24 @@
--- `merging::joined_own` meets its contract.
-use mathlib.Core.Path.{◌≡◌, sym, ◌∙◌, ap}
-use mathlib.Core.Bool.{Bool, cond}
-use Prim.Native.Nat.{ℕ}
-use native.Mathlib.Omega.{arith}
-use lib.ListN.{get_or, take}
+use Rattle.std.proofs.Common.{◌≡◌, ◌∙◌, ap, sym, Bool, cond, get_or, ℕ, arith}
 use Rattle.lists.specs.Lists.{pair_up}
 use Rattle.calculus.specs.Clauses.{arguments, no_literal, rename_literal}
 use Rattle.calculus.specs.Merging.{joins}
+use Rattle.clauses.specs.Records.{instanced_of}
 use Rattle.joining.proofs.Scratch.{apart_none}
 use Rattle.merging.proofs.Own.{own_turn}
 use Rattle.merging.proofs.joined_own.Goals as goal
 use Rattle.merging.proofs.joined_own.Goals.{then-is_own, else-is_own}
 
-pub loop-j-preserved : goal.loop-j-preserved
-loop-j-preserved c =
+pub loop-m-preserved : goal.loop-m-preserved
+loop-m-preserved c =
     let a = c.args in
-    let o = c.loop-j.out in
-    let m = get_or a.c.literals c.loop-j.j no_literal in
-    let o' = joins (pair_up (arguments a.l) (arguments m)) o in
+    let s = c.loop-m in
+    let ls = c.literals-literals.result.now in
+    let m = get_or ls s.m-index no_literal in
+    let o = joins (pair_up (arguments a.l) (arguments m)) s.t in
     let own = c.is_own in
-    let now : c.if-is_own.out ≡ cond own.result o' o =
+    let now : c.if-is_own.t ≡ cond own.result o s.t =
     elim c.if-is_own.branch [
-      | then-is_own w ↦ w.out-is ∙ w.joined_arguments-next.ensures ∙ ap (λ (f : ℕ → ℕ). joins (pair_up (arguments a.l) (arguments (rename_literal f m))) o) apart_none ∙ sym (ap (λ (b : Bool). cond b o' o) w.if-is_own.true)
-      | else-is_own w ↦ w.out-is ∙ sym (ap (λ (b : Bool). cond b o' o) w.if-is_own.false)
+      | then-is_own w ↦ w.t-is ∙ w.joined_arguments-next.ensures ∙ ap (λ (f : ℕ → ℕ). joins (pair_up (arguments a.l) (arguments (rename_literal f m))) s.t) apart_none ∙ sym (ap (λ (b : Bool). cond b o s.t) w.if-is_own.true)
+      | else-is_own w ↦ w.t-is ∙ sym (ap (λ (b : Bool). cond b o s.t) w.if-is_own.false)
     ] in
-    (omega arith, own_turn (take a.c.variables a.tau) a.g a.l a.c.literals c.loop-j.j a.t o c.if-is_own.out own.result (omega arith) c.loop-j.invariant.1 own.ensures now)
+    own_turn (instanced_of a.n.now).instance a.g a.l ls s.m-index a.t s.t c.if-is_own.t own.result (omega arith) s.invariant own.ensures now

@@ -1,16 +1,9 @@
--- `merging::reason_literals` meets its contract.
--- The invariant: what is made so far is what the definition makes of the elements passed; the measure: how many are left.
-use mathlib.Core.Path.{◌≡◌}
-use mathlib.Core.List.{map}
-use Prim.Native.Nat.{◌≤◌, ◌-◌}
-use lib.ListN.{take}
-use Rattle.calculus.specs.Clauses.{rename_literal, under}
+use Rattle.std.proofs.Common.{◌≡◌, ◌≤◌, map, take}
+use Rattle.lists.specs.Arrays.{held}
+use Rattle.calculus.specs.Clauses.{no_literal, rename_literal, under}
 use Rattle.calculus.specs.Merging.{reason_literals}
-use Rattle.joining.specs.Scratch.{held_literals}
+use Rattle.clauses.specs.Records.{clause_of, instanced_of}
 use Rattle.merging.proofs.reason_literals.Given as goal
 
 abbrev pub invariant-loop-j : goal.invariant-loop-j
-invariant-loop-j l = (l.j ≤ l.n) × (l.out.n ≤ l.j) × (l.out ≡ held_literals (map (rename_literal (under l.t)) (reason_literals (take l.v l.tau) l.g l.i (take l.j l.c.literals))))
-
-abbrev pub decreases-loop-j : goal.decreases-loop-j
-decreases-loop-j l = l.n - l.j
+invariant-loop-j l = (l.literals ≡ (clause_of l.n.clause).literals) × (l.out.n ≤ l.j) × (l.out ≡ held 16 no_literal (map (rename_literal (under l.t)) (reason_literals (instanced_of l.n).instance l.g l.i (take l.j l.literals))))

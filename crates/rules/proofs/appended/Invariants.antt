@@ -1,15 +1,7 @@
-use Prim.Native.Nat.{◌-◌}
-use Rattle.rules.proofs.Growing.{Cuts, Grows}
+use Rattle.std.proofs.Common.{◌≡◌}
+use Rattle.rules.proofs.Runs.{restored}
+use Rattle.rules.specs.Records.{with_atoms}
 use Rattle.rules.proofs.appended.Given as goal
 
-abbrev pub invariant-loop-k : goal.invariant-loop-k
-invariant-loop-k l = Cuts l.initial.next l.next l.m l.k
-
-abbrev pub decreases-loop-k : goal.decreases-loop-k
-decreases-loop-k l = l.k
-
 abbrev pub invariant-loop-j : goal.invariant-loop-j
-invariant-loop-j l = Grows l.initial.next l.next l.fresh l.m l.j
-
-abbrev pub decreases-loop-j : goal.decreases-loop-j
-decreases-loop-j l = l.n - l.j
+invariant-loop-j l = l.run ≡ restored l.initial.run (with_atoms l.initial.run.trail l.m l.fn.fresh.at l.j)

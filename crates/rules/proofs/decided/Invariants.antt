@@ -1,9 +1,7 @@
-use Prim.Native.Nat.{◌-◌}
-use Rattle.rules.proofs.Growing.{Brings}
+use Rattle.std.proofs.Common.{◌≡◌, length}
+use Rattle.rules.proofs.Runs.{restored}
+use Rattle.rules.specs.Records.{with_brought}
 use Rattle.rules.proofs.decided.Given as goal
 
 abbrev pub invariant-loop-j : goal.invariant-loop-j
-invariant-loop-j l = Brings l.initial.run l.run l.at l.sources l.m l.count l.j
-
-abbrev pub decreases-loop-j : goal.decreases-loop-j
-decreases-loop-j l = l.count - l.j
+invariant-loop-j l = l.run ≡ restored l.initial.run (with_brought l.initial.run.trail l.m l.fn.at l.fn.sources (length l.yielded))

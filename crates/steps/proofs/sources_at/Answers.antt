@@ -1,15 +1,27 @@
 -- `steps::sources_at` meets its contract.
-use Rattle.fields.proofs.Laws.{told_view}
-use Rattle.steps.proofs.Parts.{sources_none, sources_parts}
+use Rattle.std.proofs.Common.{rules, ◌∙◌, sym}
+use Rattle.basis.specs.Limits.{most_brought}
+use Rattle.asking.specs.Steps.{no_source}
+use Rattle.runfile.specs.File.{source, sources}
+use Rattle.steps.specs.Records.{packed_source, source_record}
+use Rattle.fields.proofs.Turns.{filled_made}
 use Rattle.steps.proofs.sources_at.Goals as goal
 
-pub returns-then-not-brings : goal.returns-then-not-brings
-returns-then-not-brings c =
-    let args = c.args in
-    sources_none args.s.now args.form args.at c.no_source-none.result c.if-not-brings.true c.no_source-none.ensures
+pub several-requires : goal.several-requires
+several-requires c = (search rules, (search rules, (search rules, (source_record, c.args.s.now, search rules))))
 
-pub returns : goal.returns
-returns c =
-    let args = c.args in
-    let n = c.count_at-n in
-    sources_parts args.s.now args.form args.at n.result.at n.result.value c.atoms_at.result c.if-not-brings.false (told_view n.ensures.0) n.ensures.1 c.atoms_at.ensures.0 c.atoms_at.ensures.1
+pub returns-in_err-n-clause-reads : goal.returns-in_err-n-clause-reads
+unfolding sources
+returns-in_err-n-clause-reads c = rw c.if-form.true (search rules)
+
+pub returns-in_ok-n-clause-reads : goal.returns-in_ok-n-clause-reads
+unfolding sources
+returns-in_ok-n-clause-reads c =
+    let own = c.several.ensures.reads source_record c.args.s.now (search rules) in
+    let all = rw c.no_source.ensures at own in
+    let made = filled_made most_brought no_source source packed_source c.args.s.now c.in_ok-n.n c.in_ok-n.at in
+    rw (c.if-form.true, sym c.in_ok-n.ensures.reads) (all ∙ made)
+
+pub returns-else-form-clause-reads : goal.returns-else-form-clause-reads
+unfolding sources
+returns-else-form-clause-reads c = rw c.if-form.false (search rules)

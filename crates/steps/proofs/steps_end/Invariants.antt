@@ -1,13 +1,8 @@
--- `steps::steps_end` meets its contract.
-use mathlib.Core.Path.{◌≡◌}
-use Prim.Native.Nat.{◌≤◌, ◌-◌}
-use Rattle.runfile.specs.Readers.{times}
-use Rattle.runfile.specs.File.{step}
-use Rattle.fields.specs.Views.{after, reached}
+-- `steps::steps_end` meets its contract. So many steps were passed over.
+use Rattle.std.proofs.Common.{◌≡◌}
+use Rattle.runfile.specs.Readers.{got}
+use Rattle.steps.specs.Records.{passed_over}
 use Rattle.steps.proofs.steps_end.Given as goal
 
-abbrev pub invariant-loop-j : goal.invariant-loop-j
-invariant-loop-j l = (l.j ≤ l.n) × (l.past ≡ reached (after l.initial.past (times l.j (step l.form) l.s)))
-
-abbrev pub decreases-loop-j : goal.decreases-loop-j
-decreases-loop-j l = l.n - l.j
+abbrev pub invariant-loop : goal.invariant-loop
+invariant-loop l = passed_over l.counter l.form l.s l.initial.past ≡ got tt l.past

@@ -1,5 +1,5 @@
 -- Behind the trail's atoms stand the instances of those of the clause that are passed.
-use mathlib.Core.Path.{◌≡◌, ◌∙◌, ap, sym}
+use mathlib.Core.Path.{◌∙◌, ap, sym}
 use mathlib.Core.List.{[], ◌∷◌, ◌++◌, map}
 use Prim.Native.Nat.{◌<◌}
 use native.Mathlib.Omega.{arith}
@@ -8,32 +8,25 @@ use Rattle.basis.specs.Atoms.{no_atom}
 use Rattle.basis.specs.Limits.{most_atoms}
 use Rattle.lists.proofs.Walks.{map_more}
 use Rattle.calculus.specs.Clauses.{ground_atoms, rename_atom, under}
-use Rattle.testing.proofs.Gathering.{behind_more, behind_none, gathers_all, known_few}
+use Rattle.testing.proofs.Gathering.{counted_room, gathers_more}
 use Rattle.testing.proofs.gathered.Goals as goal
+use Rattle.testing.proofs.gathered.Goals.{After-ground_atom}
 
-pub loop-j-init : goal.loop-j-init
-loop-j-init c = (omega arith, known_few c.trail_gathered-tested.ensures, behind_none c.trail_gathered-tested.result)
+few : (c : After-ground_atom) → length (ground_atoms c.args.instance.now (take c.loop-a.a-index c.atoms-a-items.result.now)) < most_atoms
+few c =
+    let l = c.atoms-a-items.result.now in
+    let j = c.loop-a.a-index in
+    omega (arith, length-map (take j l) (rename_atom (under c.args.instance.now)), length-take j l, ap length c.atoms-a-items.ensures, length-take c.args.clause.atomcount c.args.clause.atoms)
 
-pub bounds-tested-m : goal.bounds-tested-m
-bounds-tested-m c = omega (arith, c.atoms_of-own.ensures.few)
+pub push-requires : goal.push-requires
+push-requires c = counted_room c.loop-a.invariant (few (goal.at.push-requires c).After-ground_atom)
 
-pub loop-j-preserved : goal.loop-j-preserved
-loop-j-preserved c =
-    let args = c.args in
-    let own = c.atoms_of-own.ensures in
-    let loop = c.loop-j in
-    let f = rename_atom (under (take args.count args.instance)) in
-    let l = args.clause.atoms in
-    let az = map f (take loop.j l) in
-    let few : length az < most_atoms = omega (arith, own.few, length-map (take loop.j l) f, length-take loop.j l) in
-    let more = map_more f l loop.j no_atom (omega (arith, own.few, own.long)) ∙ ap (λ a. az ++ (a ∷ [])) (sym c.ground_atom.ensures) in
-    (omega arith, omega arith, behind_more _ loop.tested loop.m az _ _ loop.invariant.2 few more)
-
-pub returns : goal.returns
-returns c =
-    let args = c.args in
-    let own = c.atoms_of-own in
-    let loop = c.loop-j in
-    let all : loop.j ≡ own.result = omega arith in
-    let same = ap (λ k. take k args.clause.atoms) all ∙ own.ensures.same in
-    gathers_all (ap (ground_atoms (take args.count args.instance)) same) (loop.invariant.2 _ c.trail_gathered-tested.ensures)
+pub loop-a-preserved : goal.loop-a-preserved
+loop-a-preserved c =
+    let loop = c.loop-a in
+    let l = c.atoms-a-items.result.now in
+    let f = rename_atom (under c.args.instance.now) in
+    let az = map f (take loop.a-index l) in
+    rw c.push.ensures
+    (gathers_more _ loop.invariant (few (goal.at.loop-a-preserved c).After-ground_atom)
+    (map_more f l loop.a-index no_atom (omega arith) ∙ ap (λ a. az ++ (a ∷ [])) (sym c.ground_atom.ensures)))

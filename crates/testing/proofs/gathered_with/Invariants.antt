@@ -1,12 +1,9 @@
 -- Behind the trail's atoms stand those of the step that are passed.
-use Prim.Native.Nat.{◌+◌, ◌≤◌, ◌-◌}
 use lib.ListN.{take}
-use Rattle.basis.specs.Limits.{most_entries}
-use Rattle.testing.proofs.Gathering.{Behind}
+use Rattle.calculus.specs.Trails.{atoms_of}
+use Rattle.trail.specs.Entries.{entries_of}
+use Rattle.testing.specs.Asked.{Gathers}
 use Rattle.testing.proofs.gathered_with.Given as goal
 
-abbrev pub invariant-loop-j : goal.invariant-loop-j
-invariant-loop-j l = (l.j ≤ l.own) × (l.m ≤ most_entries + l.j) × Behind l.initial.tested l.tested l.m (take l.j l.step.at)
-
-abbrev pub decreases-loop-j : goal.decreases-loop-j
-decreases-loop-j l = l.own - l.j
+abbrev pub invariant-loop-a : goal.invariant-loop-a
+invariant-loop-a l = Gathers l.tested (atoms_of (entries_of l.fn.trail)) (take l.a-index l.step)

@@ -1,15 +1,16 @@
--- The witness record is made of the constraint test's finding, by its promise.
-use Rattle.testing.proofs.Asked.{answer_witnesses}
-use mathlib.Core.Path.{◌≡◌}
-use native.Mathlib.Omega.{arith}
-use lib.ListN.{length}
+-- `testing::possible` meets its contract.
+use Rattle.std.proofs.Common.{◌≡◌, ap, arith, length, subst}
 use Rattle.basis.specs.Limits.{most_tested}
-use borrow.Author.Rules.{rules}
+use Rattle.testing.specs.Asked.{WitnessOf, tested_atoms}
+use Rattle.testing.proofs.Asked.{answered, witness_of}
 use Rattle.testing.proofs.possible.Goals as goal
 
-pub returns : goal.returns
-returns c =
-    let first = c in
-    let found = c.possible-found in
-    let long : length first.args.tested.atoms ≡ most_tested = omega arith in
-    rw c.is_yes.ensures (answer_witnesses first.args.constants first.args.tested.count first.args.tested.atoms (search rules) long found.result.answer found.result.numbers found.ensures)
+pub returns-in-Ok : goal.returns-in-Ok
+returns-in-Ok c =
+    let long : length c.args.tested.now.atoms ≡ most_tested = omega arith in
+    subst (WitnessOf c.args.constants (tested_atoms c.args.tested.now)) (ap witness_of c.in-Ok.is) (answered c.args.constants c.args.tested.now long c.possible.result (rw c.all.ensures at c.possible.ensures))
+
+pub returns-in-Err : goal.returns-in-Err
+returns-in-Err c =
+    let long : length c.args.tested.now.atoms ≡ most_tested = omega arith in
+    subst (WitnessOf c.args.constants (tested_atoms c.args.tested.now)) (ap witness_of c.in-Err.is) (answered c.args.constants c.args.tested.now long c.possible.result (rw c.all.ensures at c.possible.ensures))

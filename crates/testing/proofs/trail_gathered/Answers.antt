@@ -1,53 +1,37 @@
 -- Of the entries passed the atoms are gathered.
-use mathlib.Core.Path.{◌≡◌, ◌∙◌, ap, sym}
-use Prim.Native.Nat.{◌+◌, ◌-◌}
-use native.Mathlib.Omega.{arith}
-use lib.ListN.{length, replicate}
-use borrow.Author.Rules.{rules}
-use Rattle.basis.specs.Atoms.{no_atom}
-use Rattle.basis.specs.Limits.{most_tested}
-use Rattle.lists.proofs.Arrays.{exactly_none}
-use Rattle.lists.specs.Arrays.{exactly}
+use mathlib.Core.Path.{◌∙◌, ◌≡◌, ap, sym}
+use mathlib.Core.List.{[]}
+use lib.ListN.{length}
 use Rattle.calculus.specs.Trails.{atoms_of}
-use Rattle.instances.proofs.Others.{stored_more}
 use Rattle.trail.specs.Entries.{trail_of}
-use Rattle.testing.proofs.Gathering.{atoms_few, atoms_skip, atoms_turn, gathers_trail}
+use native.Mathlib.Omega.{arith}
+use Rattle.testing.proofs.Gathering.{atoms_few, atoms_skip, atoms_turn, gathers_trail, none_packed, trail_more}
+use Rattle.testing.specs.Asked.{packed_tested}
 use Rattle.testing.proofs.trail_gathered.Goals as goal
+use Rattle.testing.proofs.trail_gathered.Goals.{then-is_background, else-is_background}
 
-pub loop-left-init : goal.loop-left-init
-loop-left-init c =
-    let none : c.args.length - c.args.length ≡ 0 = omega arith in (
-      omega arith,
-      search rules,
-      omega arith,
-      rw none,
-      rw none (ap (replicate most_tested) c.no_atom-blank.ensures ∙ sym (exactly_none no_atom most_tested)),
-    )
+pub loop-e-init : goal.loop-e-init
+loop-e-init c = none_packed c.no_atom-blank.ensures
 
-pub loop-left-preserved-then-is_background : goal.loop-left-preserved-then-is_background
-loop-left-preserved-then-is_background c =
-    let args = c.args in
-    let loop = c.loop-left in
-    let k = args.length - loop.left in
-    let next : args.length - (loop.left - 1) ≡ k + 1 = omega arith in
-    let t =
-    stored_more no_atom most_tested loop.m loop.tested.atoms (atoms_of (trail_of args.trail k)) _ _ loop.invariant.3 loop.invariant.4 (omega arith)
-    (atoms_turn args.trail k (sym c.is_background.ensures ∙ c.if-is_background.true)) in
-    rw next (omega arith, search rules, omega arith, t.0, t.1)
+pub push-requires : goal.push-requires
+push-requires c = omega (arith, ap (λ t. t.count) c.loop-e.invariant, atoms_few c.args.trail.now c.loop-e.e-index)
 
-pub loop-left-preserved : goal.loop-left-preserved
-loop-left-preserved c =
-    let args = c.args in
-    let loop = c.loop-left in
-    let k = args.length - loop.left in
-    let next : args.length - (loop.left - 1) ≡ k + 1 = omega arith in
-    let e = atoms_skip args.trail k (sym c.is_background.ensures ∙ c.if-is_background.false) in
-    rw next (omega arith, search rules, omega arith, loop.invariant.3 ∙ ap length (sym e), loop.invariant.4 ∙ ap (exactly most_tested no_atom) (sym e))
+pub loop-e-preserved : goal.loop-e-preserved
+loop-e-preserved c =
+    let es = c.args.trail.now in
+    let loop = c.loop-e in
+    let k = loop.e-index in
+    elim c.if-is_background.branch [
+      | then-is_background w ↦
+          w.tested-is ∙ w.push.ensures
+          ∙ trail_more (atoms_of (trail_of es k)) _ loop.invariant (atoms_turn es k (sym c.is_background.ensures ∙ w.if-is_background.true)) (omega (arith, atoms_few es k))
+      | else-is_background w ↦
+          w.tested-is ∙ loop.invariant ∙ ap (packed_tested []) (sym (atoms_skip es k (sym c.is_background.ensures ∙ w.if-is_background.false)))
+    ]
 
 pub returns : goal.returns
 returns c =
-    let args = c.args in
-    let loop = c.loop-left in
-    let passed : args.length - loop.left ≡ args.length = omega arith in
-    gathers_trail (omega (arith, atoms_few args.trail args.length)) (loop.invariant.3 ∙ ap (λ k. length (atoms_of (trail_of args.trail k))) passed)
-    (loop.invariant.4 ∙ ap (λ k. exactly most_tested no_atom (atoms_of (trail_of args.trail k))) passed)
+    let es = c.args.trail.now in
+    let loop = c.loop-e in
+    let all : loop.e-index ≡ length es = omega arith in
+    gathers_trail (omega (arith, atoms_few es (length es))) (loop.invariant ∙ ap (packed_tested []) (ap (λ k. atoms_of (trail_of es k)) all))

@@ -1,17 +1,13 @@
-use borrow.Author.Rules.{rules}
-use mathlib.Core.Path.{refl, ap, ◌∙◌}
-use mathlib.Core.List.{List}
-use Prim.Native.Nat.{ℕ, ◌+◌}
-use lib.ListN.{length-set, set, get_or}
-use lib.Seq.{sets, take_all}
-use Rattle.text.proofs.Text.{sets_more}
+-- The loop writes the word's bytes in turn.
+use Rattle.std.proofs.Common.{◌∙◌, add-one, ap, arith, refl, sym}
+use Rattle.std.proofs.Math.Seq.{take-suc}
+use Rattle.std.proofs.lemmas.List.{take_all}
+use Rattle.std.proofs.lemmas.List.Edits.{sets}
+use Rattle.text.proofs.Text.{and_then, as_text}
 use Rattle.text.proofs.put_word.Goals as goal
 
-pub loop-j-init : goal.loop-j-init
-loop-j-init c = (search rules, refl, refl)
-
 pub loop-j-preserved : goal.loop-j-preserved
-loop-j-preserved c = (search rules, simp length-set c.loop-j.invariant.1, ap (λ (l : List ℕ). set l (c.args.at + c.loop-j.j) (get_or c.args.word.now c.loop-j.j 0)) c.loop-j.invariant.2 ∙ sets_more c.args.out.now c.args.at c.args.word.now c.loop-j.j 0 (search rules))
+loop-j-preserved c = rw add-one (as_text (sym (take-suc c.args.word.now c.loop-j.j 0 c.loop-j-test.true)) (and_then c.loop-j.invariant (record { next = omega arith; left = refl })))
 
 pub returns : goal.returns
-returns c = record { next = search rules; left = c.loop-j.invariant.2 ∙ ap (λ (l : List ℕ). sets c.args.out.now c.args.at l) (take_all c.loop-j.j c.args.word.now (search rules)) }
+returns c = record { next = refl; left = c.loop-j.invariant.left ∙ ap (sets c.args.out.now c.args.at) (take_all c.loop-j.j c.args.word.now (omega arith)) }

@@ -1,11 +1,7 @@
-use mathlib.Core.Path.{◌≡◌}
-use Prim.Native.Nat.{◌≤◌, ◌-◌}
-use lib.ListN.{length, take}
-use lib.Seq.{sets}
+-- The loop writes the word's bytes in turn.
+use Rattle.std.proofs.Common.{take, ◌+◌}
+use Rattle.text.specs.Text.{Wrote}
 use Rattle.text.proofs.put_word.Given as goal
 
 abbrev pub invariant-loop-j : goal.invariant-loop-j
-invariant-loop-j l = (l.j ≤ length l.word) × (length l.out ≡ length l.initial.out) × (l.out ≡ sets l.initial.out l.at (take l.j l.word))
-
-abbrev pub decreases-loop-j : goal.decreases-loop-j
-decreases-loop-j l = length l.word - l.j
+invariant-loop-j l = Wrote l.initial.out l.at (take l.j l.word) l.out (l.at + l.j)

@@ -8,4 +8,4 @@ use Rattle.trail.proofs.empty_trail.Goals as goal
 
 pub returns : goal.returns
 unfolding packed_trail
-returns c = ap (replicate most_entries) c.blank_entry-e.ensures ∙ sym (exactly_none blank_entry most_entries)
+returns c = ap (replicate most_entries) c.blank_entry.ensures ∙ sym (exactly_none blank_entry most_entries)

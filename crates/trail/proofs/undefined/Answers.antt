@@ -1,29 +1,24 @@
--- None of the entries passed is the literal or its complement.
-use mathlib.Core.Path.{refl, sym, ◌∙◌}
-use native.Mathlib.Omega.{arith}
-use borrow.Author.Rules.{rules}
-use Rattle.trail.specs.Answers.{is_about}
-use Rattle.trail.proofs.Walks.{any_more, none_about, one_about}
+-- Neither the literal nor its complement is on the trail.
+use mathlib.Core.Path.{◌∙◌, ◌≡◌, ap, sym}
+use mathlib.Core.Bool.{◌||◌, not}
+use Rattle.calculus.specs.Clauses.{complement}
+use Rattle.calculus.specs.Trails.{is_literal, on_trail}
+use Rattle.trail.specs.Entries.{entries_of}
+use Rattle.trail.proofs.Walks.{any_of_entries}
 use Rattle.trail.proofs.undefined.Goals as goal
-
-pub loop-k-init : goal.loop-k-init
-loop-k-init c = (omega arith, search rules, refl)
-
-pub returns-then-is_about : goal.returns-then-is_about
-returns-then-is_about c =
-    let args = c.args in
-    sym
-    (one_about args.l args.trail c.loop-k.k args.length (omega arith)
-    (sym c.is_about.ensures ∙ c.if-is_about.true))
-
-pub loop-k-preserved : goal.loop-k-preserved
-loop-k-preserved c =
-    let args = c.args in
-    let loop = c.loop-k in
-    (omega arith, search rules, any_more (is_about args.l) args.trail loop.k loop.invariant.2 (sym c.is_about.ensures ∙ c.if-is_about.false))
+use Rattle.trail.proofs.undefined.Goals.{then-on_trail, else-on_trail}
 
 pub returns : goal.returns
 returns c =
-    let args = c.args in
-    let loop = c.loop-k in
-    sym (none_about args.l args.trail loop.k args.length (omega arith) loop.invariant.2)
+    let es = c.args.trail.now in
+    let l = c.args.l in
+    let here : c.on_trail.result ≡ on_trail l (entries_of es) = c.on_trail.ensures ∙ sym (any_of_entries (is_literal l) es) in
+    let other = on_trail (complement l) (entries_of es) in
+    let e : c.if-on_trail.result ≡ (on_trail l (entries_of es) || other) = elim c.if-on_trail.branch [
+      | then-on_trail w ↦ w.result-is ∙ w.if-on_trail.true ∙ sym (ap (λ b. b || other) (sym here ∙ w.if-on_trail.true))
+      | else-on_trail w ↦
+          w.result-is ∙ w.on_trail-else-on_trail.ensures ∙ sym (any_of_entries (is_literal w.complement.result) es)
+          ∙ ap (λ d. on_trail d (entries_of es)) w.complement.ensures
+          ∙ sym (ap (λ b. b || other) (sym here ∙ w.if-on_trail.false))
+    ] in
+    ap not e

@@ -1,8 +1,0 @@
--- `clauses::no_clause` meets its contract.
--- What the search leaves follows from the tests passed and from what the calls ensure.
-use Rattle.lists.specs.Arrays.{exactly}
-use Rattle.clauses.proofs.no_clause.Goals as goal
-
-pub returns : goal.returns
-unfolding exactly
-returns c = cc

@@ -1,2 +1,0 @@
--- Counts of bytes at a buffer's front.
-pub mod Counts

@@ -1,8 +1,0 @@
--- `joining::no_atoms` meets its contract.
--- What the search leaves follows from the tests passed and from what the calls ensure.
-use Rattle.lists.specs.Arrays.{exactly}
-use Rattle.joining.proofs.no_atoms.Goals as goal
-
-pub returns : goal.returns
-unfolding exactly
-returns c = cc

@@ -1,9 +1,0 @@
--- Each case leaves less.
-use Rattle.std.proofs.Common.{length, ◌-◌, ◌≤◌}
-use Rattle.rule_cases.proofs.print_cases.Given as goal
-
-abbrev pub invariant-loop-at : goal.invariant-loop-at
-invariant-loop-at l = l.at ≤ length l.s
-
-abbrev pub decreases-loop-at : goal.decreases-loop-at
-decreases-loop-at l = length l.s - l.at
