@@ -35,8 +35,8 @@ fn print_numbers(rt: HostRuntime, file: &[u8]) {
 fn main(rt: HostRuntime) {
     let words = match streams::words(rt, Program::Inspect) {
         Ok(words) => words,
-        Err(position) => {
-            streams::tell_unknown(rt, b"inspect", position);
+        Err(unknown) => {
+            streams::tell_unknown(rt, b"inspect", unknown.position);
             return;
         }
     };

@@ -13,8 +13,8 @@ fn print_listing(rt: HostRuntime, file: &[u8]) {
 }
 
 fn main(rt: HostRuntime) {
-    if let Err(position) = streams::words(rt, Program::Judge) {
-        streams::tell_unknown(rt, b"judge", position);
+    if let Err(unknown) = streams::words(rt, Program::Judge) {
+        streams::tell_unknown(rt, b"judge", unknown.position);
         return;
     }
     let mut file = [0u8; MOST_READ];

@@ -6,7 +6,7 @@ ghost use Rattle.streams.specs.Streams.{EndsWithin, FillsWithin};
 use std::env::FillError;
 use std::io::Read;
 use std::rt::Env;
-use words::{MOST_UNKNOWN, MOST_WORD, Program, Words, no_words, put_unknown, with_word};
+use words::{MOST_UNKNOWN, MOST_WORD, Program, Unknown, Words, no_words, put_unknown, with_word};
 
 // A program's name and what failed, as one line
 fn tell(rt: HostRuntime, program: &[u8], fault: &[u8]) {
@@ -63,9 +63,9 @@ pub fn word_at(rt: HostRuntime, position: usize, buffer: &mut [u8]) -> Option<us
     }
 }
 
-// What the words of the command line ask for; or the position of the first that the program does not know. A word that is longer than any of a
-// program's is unknown.
-pub fn words(rt: HostRuntime, program: Program) -> Result<Words, usize> {
+// What the words of the command line ask for; or the first that the program does not know. A word that is longer than any of a program's is
+// unknown.
+pub fn words(rt: HostRuntime, program: Program) -> Result<Words, Unknown> {
     let mut word = [0u8; MOST_WORD];
     let mut words = no_words();
     for position in 1..usize::MAX {

@@ -20,6 +20,13 @@ pub struct Words {
     pub numbers: bool,
 }
 
+// The position, from 1, of the first word that the program does not know; and whether `numbers` was asked for before it
+#[derive(Clone, Copy, PartialEq, Eq)]
+pub struct Unknown {
+    pub position: usize,
+    pub numbers: bool,
+}
+
 // No word of a program has more bytes.
 pub const MOST_WORD: usize = 7;
 
@@ -27,7 +34,7 @@ pub const MOST_WORD: usize = 7;
 pub const MOST_UNKNOWN: usize = 34;
 
 // Before the first word
-pub fn no_words() -> Result<Words, usize>
+pub fn no_words() -> Result<Words, Unknown>
     ensures { result ≡ no_words }
 {
     Ok(Words { numbers: false })
@@ -50,18 +57,21 @@ fn is_known(program: Program, word: &[u8]) -> bool
     }
 }
 
-// One word more, at its position; or the position, from 1, of the first that the program does not know
+// One word more, at its position; or the first that the program does not know
 pub fn with_word(
     program: Program,
-    words: Result<Words, usize>,
+    words: Result<Words, Unknown>,
     position: usize,
     word: &[u8],
-) -> Result<Words, usize>
+) -> Result<Words, Unknown>
     ensures { result ≡ with_word program words position word.now }
 {
     let words = words?;
     if !is_known(program, word) {
-        return Err(position);
+        return Err(Unknown {
+            position,
+            numbers: words.numbers,
+        });
     }
     Ok(Words {
         numbers: words.numbers || is_numbers(word),
