@@ -36,14 +36,15 @@ fn lower_row(row: &mut Row, via: &Row, start: i64)
     }
 }
 
-// How many constants stand after the place i in the order.
+// How many constants stand after the place i in the order. By comparisons here and below: with `saturating_sub` the compiler doesn't unroll the square's
+// making, and each test takes some 600 ns more.
 fn stand_after(constants: usize, i: usize) -> usize
     ensures { result ≡ stand_after constants i }
 {
-    if i < 1 {
+    if i < 1 || constants < i {
         0
     } else {
-        constants.saturating_sub(i)
+        constants - i
     }
 }
 
@@ -51,11 +52,7 @@ fn stand_after(constants: usize, i: usize) -> usize
 fn stand_before(constants: usize, j: usize) -> usize
     ensures { result ≡ stand_before constants j }
 {
-    if constants < j {
-        0
-    } else {
-        j.saturating_sub(1)
-    }
+    if constants < j || j < 1 { 0 } else { j - 1 }
 }
 
 // The bound at i and j by the constants' order alone.

@@ -162,7 +162,7 @@ module _ {r : Run} {s : State} (R : RunOf r s) (k : Looked) (c l count : ℕ) (�
 
   module _ (handed : k ≡ looked_at s (Propagate c l (exactly count 0 ι))) (a : Bool)
       (a-is : a ≡ (leb (length τ) most_variables && (between 1 (r.input + r.learned) c && (literal_exists (clause_of k.clause) l && instance_fits r.constants (clause_of k.clause) τ))))
-      (m : Literal) (m-is : m ≡ ground τ (get_or (clause_of k.clause).literals (l - 1) no_literal)) (v : LiteralsSeen) (v-is : v ≡ literals_seen (trail_of r.trail r.length) (clause_of k.clause) τ (std.Some m))
+      (m : Literal) (m-is : m ≡ ground τ (get_or (clause_of k.clause).literals (l - 1) no_literal)) (v : LiteralsSeen) (v-is : v ≡ literals_seen (trail_of r.trail r.length) (clause_of k.clause) τ true m)
       (w : Tested) (G : Gathers w (atoms_of (trail_of r.trail r.length)) (ground_atoms τ (clause_of k.clause).atoms)) (b : Shown) (d : WitnessOf r.constants (tested_atoms w) b)
       (f : Held Atom most_atoms) (f-is : f ≡ packed_atoms (new_atoms (known_atoms w) (step_atoms w))) {n n₁ n₂ n₃ n₄ n₅ n₆ : ℕ}
       (e₆ : n₆ ≡ cond (ltb (r.length + f.n) most_entries) 0 no_room) (e₅ : n₅ ≡ cond (is_some b) n₆ not_possible) (e₄ : n₄ ≡ cond (is_none v.first) n₅ not_false) (e₃ : n₃ ≡ cond v.free n₄ already_defined)

@@ -23,7 +23,7 @@ use basis::{
     Atom, MOST_CONSTANTS, MOST_ENTRIES, MOST_LEARNED, MOST_VARIABLES, Numbers, Refusal, Refused,
     Version,
 };
-use clauses::{Instanced, no_instanced};
+use clauses::{Instanced, no_instanced, no_literal};
 use deciding::weigh;
 use instances::{
     again, conflict_instance, first_constants, index_of, literal_exists, literal_instance,
@@ -182,7 +182,7 @@ impl Run {
         let g = literal_instance(clause, l, constants);
         let m = self.length as usize;
         let trail = &self.trail[..m];
-        let seen = literals_seen(trail, clause, constants, Some(g));
+        let seen = literals_seen(trail, clause, constants, true, g);
         let tested = gathered(trail, clause, constants);
         let together = possible(self.constants, &tested);
         let fresh = new_atoms(&tested);
@@ -252,7 +252,7 @@ impl Run {
             constants,
         );
         let trail = &self.trail[..self.length as usize];
-        let seen = literals_seen(trail, clause, constants, None);
+        let seen = literals_seen(trail, clause, constants, false, no_literal());
         let tested = gathered(trail, clause, constants);
         let witness = possible(self.constants, &tested);
         let lacking = first_lacking(&[

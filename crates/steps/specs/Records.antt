@@ -11,7 +11,7 @@ use Rattle.runfile.specs.Readers.{Got, Reader, ◌then◌, bad, give, got, times
 use Rattle.runfile.specs.File.{File, file, header, instance, rule, ruled, source, sources, step}
 use Rattle.runfile.specs.Claims.{StepHeld}
 use Rattle.basis.specs.declared.Refused.{Refused}
-use Rattle.fields.specs.Views.{read, read_as}
+use Rattle.fields.specs.Views.{read_as}
 use Rattle.header.specs.declared.Header.{Header}
 use Rattle.header.specs.Records.{kept}
 use Rattle.asking.specs.declared.Step.{Step}
@@ -73,6 +73,13 @@ source_record = source then λ z. give (packed_source z)
 
 abbrev pub source_records : Form → Reader (Held Source most_brought)
 source_records f = sources f then λ zs. give (held most_brought no_source (map packed_source zs))
+
+-- n atoms that a Decide brings, of which nothing is kept but how many they are; and how many it brings
+abbrev pub counted : ℕ → Reader ℕ
+counted n = times n source then λ zs. give (length zs)
+
+abbrev pub brought : Form → Reader ℕ
+brought f = sources f then λ zs. give (length zs)
 
 -- The arguments of a rule, but for the atoms of a Decide, which are counted
 abbrev pub arguments : Form → (rule : ℕ) → Reader Step

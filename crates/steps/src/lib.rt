@@ -6,7 +6,7 @@ ghost use Rattle.basis.specs.Limits.{most_brought, most_variables};
 ghost use Rattle.basis.specs.RuleNumbers.{rule_number};
 ghost use Rattle.runfile.specs.File.{end};
 ghost use Rattle.fields.specs.Views.{read};
-ghost use Rattle.steps.specs.Records.{arguments, blank_step, constants, decided, decision, file_answer, outline, outline_read, passed_over, source_record, source_records, step_there};
+ghost use Rattle.steps.specs.Records.{arguments, blank_step, brought, constants, counted, decided, decision, file_answer, outline, outline_read, passed_over, source_record, source_records, step_there};
 
 use asking::{Source, Step, no_source};
 use basis::{Form, MOST_BROUGHT, MOST_VARIABLES, Refusal, Refused, Rule, form_of};
@@ -73,6 +73,31 @@ fn sources_at(s: &[u8], at: usize, form: Form) -> Read<Held<Source, MOST_BROUGHT
     }
 }
 
+// So many of them, of which nothing is kept
+fn sources_end(s: &[u8], at: usize, brought: u8) -> Read<u8>
+    ensures { read result ≡ counted brought s.now at }
+{
+    let mut past = at;
+    for _ in 0..brought {
+        let (_, next) = source_at(s, past)?;
+        past = next;
+    }
+    Ok((brought, past))
+}
+
+// How many of them a Decide brings
+#[tactic(auto, unfolding(runfile::specs::File::sources))]
+fn brought_at(s: &[u8], at: usize, form: Form) -> Read<u8>
+    ensures { read result ≡ brought form s.now at }
+{
+    if form.brings {
+        let (n, at) = count_at(s, at, MOST_BROUGHT)?;
+        sources_end(s, at, n)
+    } else {
+        Ok((0, at))
+    }
+}
+
 // ---- steps
 
 // A step whose rule has no use for any argument
@@ -107,7 +132,30 @@ fn propagate_at(s: &[u8], at: usize, form: Form) -> Read<Outline>
     Ok((outline, at))
 }
 
-// The arguments of a Decide, with the atoms that it brings
+// The arguments of a Decide, of whose atoms none is kept: a table of them for each step that is passed over costs more than they do.
+#[tactic(auto, unfolding(runfile::specs::File::ruled))]
+fn outlined_at(s: &[u8], at: usize, form: Form) -> Read<Outline>
+    ensures { outline_read result ≡ arguments form 2 s.now at }
+{
+    let (clause, at) = byte_at(s, at)?;
+    let (literal, at) = byte_at(s, at)?;
+    let (sign, at) = within_at(s, at, 0, 1)?;
+    let (Held { n, at: instance }, at) = instance_at(s, at)?;
+    let (brought, at) = brought_at(s, at, form)?;
+    let outline = Outline {
+        rule: Rule::Decide,
+        clause,
+        literal,
+        sign,
+        count: n as u8,
+        brought,
+        instance,
+        ..BLANK
+    };
+    Ok((outline, at))
+}
+
+// .. with the atoms that it brings
 #[tactic(auto, unfolding(runfile::specs::File::ruled))]
 fn decide_at(s: &[u8], at: usize, form: Form) -> Read<Step>
     ensures { read result ≡ decided form s.now at }
@@ -156,21 +204,7 @@ fn arguments_at(s: &[u8], at: usize, form: Form, rule: Rule) -> Read<Outline>
 {
     match rule {
         Rule::Propagate => propagate_at(s, at, form),
-        Rule::Decide => {
-            let (x, at) = decide_at(s, at, form)?;
-            let instance = x.instance;
-            let outline = Outline {
-                rule,
-                clause: x.clause,
-                literal: x.literal,
-                sign: x.sign,
-                count: x.count,
-                brought: x.brought,
-                instance,
-                ..BLANK
-            };
-            Ok((outline, at))
-        }
+        Rule::Decide => outlined_at(s, at, form),
         Rule::Conflict => conflict_at(s, at, form),
         Rule::Resolve | Rule::Backtrack => {
             let (literal, at) = byte_at(s, at)?;

@@ -67,7 +67,7 @@ entries_first es n h = ap (trail_of (take n es)) (length-take-le n es h) ∙ sam
     same zero q = refl
     same (suc k) q = ap₂ {C = Trail} (λ e t. entry_of e ∷ t) (get_or-take n es k past_end (omega arith)) (same k (omega arith))
 
-either_on : (l : Literal) (t : Trail) → (on_trail l t || on_trail (complement l) t) ≡ any_of (is_about l) t
+pub either_on : (l : Literal) (t : Trail) → (on_trail l t || on_trail (complement l) t) ≡ any_of (is_about l) t
 either_on l [] = refl
 either_on l (e ∷ t) = go (is_literal l e) (is_literal (complement l) e) (on_trail l t) (on_trail (complement l) t) ∙ ap (λ b. is_about l e || b) (either_on l t)
   where

@@ -1,5 +1,5 @@
 -- What the functions answer: the walk of refusal 12, and levels.
-use Rattle.std.specs.Prelude.{List, Bool, true, false, ◌||◌, cond, ℕ, Option, None, Some, length}
+use Rattle.std.specs.Prelude.{List, Bool, false, ◌||◌, cond, ℕ, Option, None, Some, length}
 use Rattle.basis.specs.declared.Literal.{Literal}
 use Rattle.lists.specs.Lists.{all_of}
 use Rattle.calculus.specs.Clauses.{Clause, Instanced, same_literal, complement, ground}
@@ -29,14 +29,13 @@ passes own t τ m = is_own own (ground τ m) || is_false t (ground τ m)
 abbrev pub first_number : (Literal → Bool) → List Literal → Option ℕ
 first_number f ls = cond (all_of f ls) None (Some (first_failing f ls))
 
--- Whether `own` is undefined; true where there is none, of which nothing is asked
-abbrev pub is_free : Option Literal → Trail → Bool
-is_free None t = true
-is_free (Some g) t = undefined t g
+-- The literal that need not be false: `own`, where only the others must be
+abbrev pub excepted : (others : Bool) → Literal → Option Literal
+excepted others own = cond others (Some own) None
 
 -- What Propagate and Conflict ask of a trail: whether `own` is undefined, and the number of the first literal that must be false and is not, if one is not
-abbrev pub literals_seen : Trail → Clause → List ℕ → Option Literal → LiteralsSeen
-literals_seen t C τ own = record { free = is_free own t; first = first_number (passes own t τ) C.literals }
+abbrev pub literals_seen : Trail → Clause → List ℕ → (others : Bool) → Literal → LiteralsSeen
+literals_seen t C τ others own = record { free = undefined t own; first = first_number (passes (excepted others own) t τ) C.literals }
 
 -- ---- levels
 

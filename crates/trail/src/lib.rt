@@ -108,17 +108,18 @@ pub fn is_about(e: Entry, l: Literal) -> bool
 
 // ---- what is on the trail
 
-fn on_trail(trail: &[Entry], l: Literal) -> bool
-    ensures { result ≡ any_of (λ e. is_literal l (entry_of e)) trail.now }
+// Whether the literal or its complement is on the trail
+fn is_defined(trail: &[Entry], l: Literal) -> bool
+    ensures { result ≡ any_of (λ e. is_about l (entry_of e)) trail.now }
 {
-    trail.iter().any(|e| is_literal(*e, l))
+    trail.iter().any(|e| is_about(*e, l))
 }
 
 // "A literal is undefined if neither it nor its complement is on the trail, false if its complement is."
 pub fn undefined(trail: &[Entry], l: Literal) -> bool
     ensures { result ≡ trails.undefined (entries_of trail.now) l }
 {
-    !(on_trail(trail, l) || on_trail(trail, complement(l)))
+    !is_defined(trail, l)
 }
 
 // ---- refusal 12
@@ -151,18 +152,22 @@ fn first_failing(
     first
 }
 
-// Whether `own` is undefined, where there is one; and the number, from 1, of the first literal of the clause that must be false and is not, if there is one
+// Whether `own` is undefined; and the number, from 1, of the first literal of the clause that must be false and is not, if there is one. All must be
+// false, or, where `others`, those with another instance than `own`. A flag beside `own` and no Option, since `own` is looked for in both cases
+// (`literals_seen`).
 pub fn literals_seen(
     trail: &[Entry],
     clause: Clause,
     instance: &[u8],
-    own: Option<Literal>,
+    others: bool,
+    own: Literal,
 ) -> LiteralsSeen
-    ensures { result ≡ literals_seen (entries_of trail.now) (clause_of clause) instance.now own }
+    ensures { result ≡ literals_seen (entries_of trail.now) (clause_of clause) instance.now others own }
 {
-    let first = first_failing(trail, clause.literals(), instance, own);
+    let excepted = others.then_some(own);
+    let first = first_failing(trail, clause.literals(), instance, excepted);
     LiteralsSeen {
-        free: own.is_none_or(|g| undefined(trail, g)),
+        free: undefined(trail, own),
         first: first.map(|j| j as u8 + 1),
     }
 }

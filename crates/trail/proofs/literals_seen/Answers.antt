@@ -8,7 +8,7 @@ use Rattle.std.specs.List.{position}
 use Rattle.std.specs.Option.{option_map}
 use Rattle.std.specs.Prelude.{Option, None, Some}
 use Rattle.clauses.specs.Records.{clause_of}
-use Rattle.trail.specs.Answers.{first_number, is_free, passes}
+use Rattle.trail.specs.Answers.{excepted, first_number, passes}
 use Rattle.trail.specs.Entries.{entries_of}
 use Rattle.trail.proofs.NotFalse.{first_found}
 use Rattle.trail.proofs.literals_seen.Goals as goal
@@ -20,10 +20,10 @@ one_more (Some n) = ap Some (add-one n)
 pub returns : goal.returns
 returns c =
     let args = c.args in
-    let f = passes args.own (entries_of args.trail.now) args.instance.now in
+    let own : c.then_some-excepted.result ≡ excepted args.others args.own = search rules in
+    let f = passes (excepted args.others args.own) (entries_of args.trail.now) args.instance.now in
     let ls = (clause_of args.clause).literals in
     let mapped : c.map.result ≡ option_map (λ (j : ℕ). j + 1) c.first_failing-first.result = search rules in
-    let found : c.first_failing-first.result ≡ position (λ l. not (f l)) ls = c.first_failing-first.ensures ∙ ap (position (λ l. not (f l))) c.literals.ensures in
+    let found : c.first_failing-first.result ≡ position (λ l. not (f l)) ls = rw own at (c.first_failing-first.ensures ∙ ap (position (λ l. not (passes c.then_some-excepted.result (entries_of args.trail.now) args.instance.now l))) c.literals.ensures) in
     let number : c.map.result ≡ first_number f ls = mapped ∙ one_more c.first_failing-first.result ∙ ap (option_map suc) found ∙ sym (first_found f ls) in
-    let free : c.is_none_or.result ≡ is_free args.own (entries_of args.trail.now) = search rules in
-    λ i. record { free = free i; first = number i }
+    λ i. record { free = c.undefined.ensures i; first = number i }
